@@ -1,0 +1,5 @@
+pub mod Decode
+pub mod State
+pub mod Start
+pub mod Write
+pub mod Read

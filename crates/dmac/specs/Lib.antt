@@ -1,0 +1,3 @@
+pub mod Controller
+pub mod Access
+pub mod Examples
