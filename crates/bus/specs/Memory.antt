@@ -22,7 +22,11 @@ with-byte s a v bytes s′ a′ = cond (eqb s′ s && eqb a′ a) v (bytes s′ 
 -- A memory with the byte at a place replaced; what is answered and the space numbers never change.
 abbrev pub byte-set : ℕ → ℕ → ℕ → MemoryMeaning → MemoryMeaning
 byte-set c a v m = record {
-    readable = m .readable; writable = m .writable; space = m .space; byte = with-byte (m .space c) a v (m .byte) }
+  readable = m .readable;
+  writable = m .writable;
+  space = m .space;
+  byte = with-byte (m .space c) a v (m .byte);
+}
 
 -- The byte at a place.
 abbrev pub byte-at : ℕ → ℕ → MemoryMeaning → ℕ
@@ -61,7 +65,8 @@ word-written c a v m =
 -- A flat memory over given bytes: one space, number 0, and every code answered below their number.
 abbrev pub flat : List ℕ → MemoryMeaning
 flat bytes = record {
-    readable = λ c a. ltb c 8 && ltb a (length bytes);
-    writable = λ c a. ltb c 8 && ltb a (length bytes);
-    space = λ c. 0;
-    byte = λ s a. cond (eqb s 0) (getD bytes a 0) 0 }
+  readable = λ c a. ltb c 8 && ltb a (length bytes);
+  writable = λ c a. ltb c 8 && ltb a (length bytes);
+  space = λ c. 0;
+  byte = λ s a. cond (eqb s 0) (getD bytes a 0) 0;
+}

@@ -46,7 +46,11 @@ pub impl<'a> Memory for Flat<'a> as FlatMemory {
     }
 
     fn read(&self, code: u8, address: u32) -> Option<u8> {
-        if self.holds(code, address) { Some(self.bytes[address as usize]) } else { None }
+        if self.holds(code, address) {
+            Some(self.bytes[address as usize])
+        } else {
+            None
+        }
     }
 
     fn write(&mut self, code: u8, address: u32, byte: u8) {

@@ -22,26 +22,36 @@ pub use Rattle.channel.specs.declared.state.Channel.{Channel}
 -- A channel whose registers, vectors included, are all 0: what stands at a place where there is no channel.
 abbrev pub blank-channel : Channel
 blank-channel = record {
-    registers = record {
-        config = record { dcr = 0; ocr = 0; scr = 0; dfc = 0 };
-        counters = record { mtc = 0; mar = 0; dar = 0; mfc = 0 };
-        table = record { btc = 0; bar = 0; bfc = 0 };
-        status = record { csr = 0; cer = 0 };
-        control = record { ccr = 0 };
-        vectors = record { niv = 0; eiv = 0; cpr = 0 } };
-    phase = Idle; line = false; latch = false; first = false }
+  registers = record {
+    config = record { dcr = 0; ocr = 0; scr = 0; dfc = 0 };
+    counters = record { mtc = 0; mar = 0; dar = 0; mfc = 0 };
+    table = record { btc = 0; bar = 0; bfc = 0 };
+    status = record { csr = 0; cer = 0 };
+    control = record { ccr = 0 };
+    vectors = record { niv = 0; eiv = 0; cpr = 0 };
+  };
+  phase = Idle;
+  line = false;
+  latch = false;
+  first = false;
+}
 
 -- A new channel holds 0 everywhere, but $0F in its two vectors.
 abbrev pub new-channel : Channel
 new-channel = record {
-    registers = record {
-        config = record { dcr = 0; ocr = 0; scr = 0; dfc = 0 };
-        counters = record { mtc = 0; mar = 0; dar = 0; mfc = 0 };
-        table = record { btc = 0; bar = 0; bfc = 0 };
-        status = record { csr = 0; cer = 0 };
-        control = record { ccr = 0 };
-        vectors = record { niv = 0x0F; eiv = 0x0F; cpr = 0 } };
-    phase = Idle; line = false; latch = false; first = false }
+  registers = record {
+    config = record { dcr = 0; ocr = 0; scr = 0; dfc = 0 };
+    counters = record { mtc = 0; mar = 0; dar = 0; mfc = 0 };
+    table = record { btc = 0; bar = 0; bfc = 0 };
+    status = record { csr = 0; cer = 0 };
+    control = record { ccr = 0 };
+    vectors = record { niv = 0x0F; eiv = 0x0F; cpr = 0 };
+  };
+  phase = Idle;
+  line = false;
+  latch = false;
+  first = false;
+}
 
 -- A channel with its registers replaced, or one group of them, or its phase, or its request state.
 abbrev pub with-registers : Registers → Channel → Channel
@@ -86,11 +96,16 @@ channel-failed f c =
 -- A reset makes a channel new but for MTC, MAR, DAR, BTC, BAR, the function codes and the line's level.
 abbrev pub channel-reset : Channel → Channel
 channel-reset c = record {
-    registers = record {
-        config = record { dcr = 0; ocr = 0; scr = 0; dfc = c .registers .config .dfc };
-        counters = c .registers .counters;
-        table = c .registers .table;
-        status = record { csr = 0; cer = 0 };
-        control = record { ccr = 0 };
-        vectors = record { niv = 0x0F; eiv = 0x0F; cpr = 0 } };
-    phase = Idle; line = c .line; latch = false; first = false }
+  registers = record {
+    config = record { dcr = 0; ocr = 0; scr = 0; dfc = c .registers .config .dfc };
+    counters = c .registers .counters;
+    table = c .registers .table;
+    status = record { csr = 0; cer = 0 };
+    control = record { ccr = 0 };
+    vectors = record { niv = 0x0F; eiv = 0x0F; cpr = 0 };
+  };
+  phase = Idle;
+  line = c .line;
+  latch = false;
+  first = false;
+}

@@ -44,11 +44,31 @@ impl Channel {
             Register::Ocr => self.registers.config.ocr = value & 0xBF,
             Register::Scr => self.registers.config.scr = value & 0x0F,
             Register::Ccr => self.write_control(value),
-            Register::Mtc(k) => self.registers.counters.mtc = with_byte_16(k, value, self.registers.counters.mtc),
-            Register::Mar(k) => self.registers.counters.mar = with_byte_32(k, value, self.registers.counters.mar),
-            Register::Dar(k) => self.registers.counters.dar = with_byte_32(k, value, self.registers.counters.dar),
-            Register::Btc(k) => self.registers.table.btc = with_byte_16(k, value, self.registers.table.btc),
-            Register::Bar(k) => self.registers.table.bar = with_byte_32(k, value, self.registers.table.bar),
+            Register::Mtc(k) => self.registers.counters.mtc = with_byte_16(
+                k,
+                value,
+                self.registers.counters.mtc,
+            ),
+            Register::Mar(k) => self.registers.counters.mar = with_byte_32(
+                k,
+                value,
+                self.registers.counters.mar,
+            ),
+            Register::Dar(k) => self.registers.counters.dar = with_byte_32(
+                k,
+                value,
+                self.registers.counters.dar,
+            ),
+            Register::Btc(k) => self.registers.table.btc = with_byte_16(
+                k,
+                value,
+                self.registers.table.btc,
+            ),
+            Register::Bar(k) => self.registers.table.bar = with_byte_32(
+                k,
+                value,
+                self.registers.table.bar,
+            ),
             Register::Niv => self.registers.vectors.niv = value,
             Register::Eiv => self.registers.vectors.eiv = value,
             Register::Mfc => self.registers.counters.mfc = value & 7,
@@ -62,7 +82,12 @@ impl Channel {
     pub fn reach(&self, number: u8, offset: u8) -> Access
         ensures { λ r. ⌜ r ≡ reached number offset (now (self .entry)) ⌝ }
     {
-        decode(number, offset, self.registers.status.is_active(), self.registers.config.is_chained())
+        decode(
+            number,
+            offset,
+            self.registers.status.is_active(),
+            self.registers.config.is_chained(),
+        )
     }
 
     fn write_half(&mut self, half: Access, value: u8)

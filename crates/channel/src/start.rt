@@ -25,7 +25,10 @@ impl Channel {
         if !config.is_chained() && config.is_misplaced(self.registers.counters.mar) {
             return Some(Fault::MemoryAddress);
         }
-        if !config.is_single() && config.is_port16() && config.is_misplaced(self.registers.counters.dar) {
+        if !config.is_single()
+            && config.is_port16()
+            && config.is_misplaced(self.registers.counters.dar)
+        {
             return Some(Fault::DeviceAddress);
         }
         if config.is_chained() && is_odd(self.registers.table.bar) {

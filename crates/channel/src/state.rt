@@ -55,12 +55,30 @@ impl Channel {
     {
         Channel {
             registers: Registers {
-                config: Config { dcr: 0, ocr: 0, scr: 0, dfc: 0 },
-                counters: Counters { mtc: 0, mar: 0, dar: 0, mfc: 0 },
-                table: Table { btc: 0, bar: 0, bfc: 0 },
+                config: Config {
+                    dcr: 0,
+                    ocr: 0,
+                    scr: 0,
+                    dfc: 0,
+                },
+                counters: Counters {
+                    mtc: 0,
+                    mar: 0,
+                    dar: 0,
+                    mfc: 0,
+                },
+                table: Table {
+                    btc: 0,
+                    bar: 0,
+                    bfc: 0,
+                },
                 status: Status { csr: 0, cer: 0 },
                 control: Control { ccr: 0 },
-                vectors: Vectors { niv: 0x0F, eiv: 0x0F, cpr: 0 },
+                vectors: Vectors {
+                    niv: 0x0F,
+                    eiv: 0x0F,
+                    cpr: 0,
+                },
             },
             phase: Phase::Idle,
             line: false,
@@ -87,7 +105,11 @@ impl Channel {
         self.registers.config.scr = 0;
         self.registers.status = Status { csr: 0, cer: 0 };
         self.registers.control = Control { ccr: 0 };
-        self.registers.vectors = Vectors { niv: 0x0F, eiv: 0x0F, cpr: 0 };
+        self.registers.vectors = Vectors {
+            niv: 0x0F,
+            eiv: 0x0F,
+            cpr: 0,
+        };
         self.phase = Phase::Idle;
         self.latch = false;
         self.first = false;

@@ -11,7 +11,11 @@ pub use Rattle.dmac.specs.declared.controller.Dmac.{Dmac}
 -- served last, so that channel 0 is asked first.
 abbrev pub new-controller : Dmac
 new-controller = record {
-    channels = new-channel ∷ new-channel ∷ new-channel ∷ new-channel ∷ []; gcr = 0; last = 3; bus = false }
+  channels = new-channel ∷ new-channel ∷ new-channel ∷ new-channel ∷ [];
+  gcr = 0;
+  last = 3;
+  bus = false;
+}
 
 abbrev pub channel-at : ℕ → Dmac → Channel
 channel-at n k = getD (k .channels) n blank-channel
@@ -25,5 +29,8 @@ with-general v k = record { channels = k .channels; gcr = v; last = k .last; bus
 -- A reset makes the controller new but for what each channel keeps.
 abbrev pub controller-reset : Dmac → Dmac
 controller-reset k = record {
-    channels = channel-reset (channel-at 0 k) ∷ channel-reset (channel-at 1 k) ∷ channel-reset (channel-at 2 k) ∷ channel-reset (channel-at 3 k) ∷ [];
-    gcr = 0; last = 3; bus = false }
+  channels = channel-reset (channel-at 0 k) ∷ channel-reset (channel-at 1 k) ∷ channel-reset (channel-at 2 k) ∷ channel-reset (channel-at 3 k) ∷ [];
+  gcr = 0;
+  last = 3;
+  bus = false;
+}

@@ -123,7 +123,8 @@ impl Dmac {
         ensures { λ r. ⌜ r ≡ reach-of offset (now (self .entry)) ⌝ }
     {
         let channel = channel_of(offset);
-        self.channels[channel as usize].reach(channel, offset_within(offset))
+        self.channels[channel as usize]
+            .reach(channel, offset_within(offset))
     }
 
     fn reach_after(&self, offset: u8) -> Access
@@ -142,7 +143,8 @@ impl Dmac {
         match low {
             Access::General => self.gcr = low_value & 0x0F,
             Access::Nowhere | Access::Barred | Access::To(_) => {
-                self.channels[channel as usize].write(high, high_value, low, low_value);
+                self.channels[channel as usize]
+                    .write(high, high_value, low, low_value);
             }
         }
     }
@@ -164,7 +166,13 @@ impl Dmac {
     {
         let high = self.reach_of(offset);
         let low = self.reach_after(offset);
-        self.take_in(channel_of(offset), high, (value >> 8) as u8, low, (value % 256) as u8);
+        self.take_in(
+            channel_of(offset),
+            high,
+            (value >> 8) as u8,
+            low,
+            (value % 256) as u8,
+        );
     }
 
     // Writes two register bytes, or neither.

@@ -16,7 +16,17 @@ impl Dmac {
     pub fn new() -> Dmac
         ensures { λ r. ⌜ r ≡ new-controller ⌝ }
     {
-        Dmac { channels: [Channel::new(), Channel::new(), Channel::new(), Channel::new()], gcr: 0, last: 3, bus: false }
+        Dmac {
+            channels: [
+                Channel::new(),
+                Channel::new(),
+                Channel::new(),
+                Channel::new(),
+            ],
+            gcr: 0,
+            last: 3,
+            bus: false,
+        }
     }
 
     // What the reset line does.

@@ -10,3 +10,5 @@
 pub mod access;
 pub mod controller;
 pub mod examples;
+#[cfg(test)]
+mod tests;

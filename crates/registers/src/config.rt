@@ -81,7 +81,11 @@ impl Config {
     fn is_field_unused(&self) -> bool
         ensures { λ r. ⌜ r ≡ is-field-unused (now (self .entry)) ⌝ }
     {
-        self.xrm() == 1 || self.size_field() == 3 || self.chain_field() == 1 || self.mac() == 3 || self.dac() == 3
+        self.xrm() == 1
+            || self.size_field() == 3
+            || self.chain_field() == 1
+            || self.mac() == 3
+            || self.dac() == 3
     }
 
     fn is_single_unfit(&self) -> bool
@@ -104,7 +108,10 @@ impl Config {
     pub fn is_unusable(&self, cnt: bool) -> bool
         ensures { λ r. ⌜ r ≡ is-unusable cnt (now (self .entry)) ⌝ }
     {
-        self.is_field_unused() || (cnt && self.is_chained()) || self.is_single_unfit() || self.is_dual_unfit()
+        self.is_field_unused()
+            || (cnt && self.is_chained())
+            || self.is_single_unfit()
+            || self.is_dual_unfit()
     }
 }
 

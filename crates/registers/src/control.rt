@@ -4,9 +4,13 @@ ghost use mathlib.Core.Path.{_≡_};
 ghost use Rattle.registers.specs.Control.{stored, continued, uncontinued};
 
 pub const STR: u8 = 0x80;
+
 pub const CNT: u8 = 0x40;
+
 pub const HLT: u8 = 0x20;
+
 pub const SAB: u8 = 0x10;
+
 pub const INT: u8 = 0x08;
 
 impl Control {

@@ -5,9 +5,13 @@ ghost use mathlib.Core.Path.{_≡_};
 ghost use Rattle.registers.specs.Status.{is-active, is-block-done, is-busy, failed, activated, cleared};
 
 pub const COC: u8 = 0x80;
+
 pub const BLOCK: u8 = 0x40;
+
 pub const NDT: u8 = 0x20;
+
 pub const ERR: u8 = 0x10;
+
 pub const ACT: u8 = 0x08;
 
 impl Status {

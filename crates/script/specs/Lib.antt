@@ -1,0 +1,4 @@
+pub mod Digits
+pub mod Command
+pub mod Text
+pub mod Lines

@@ -1,0 +1,101 @@
+use crate::command::Command;
+use crate::lines::after_line;
+use crate::lines::count_lines;
+use crate::lines::first_line;
+use crate::parse::parse;
+use crate::text::byte_at;
+use crate::text::data_count;
+use crate::text::put_byte;
+use crate::text::put_ok;
+use crate::text::put_refusal;
+use refusal::kinds::Refusal;
+use std::test::*;
+
+// The letter and the numbers of a command, and of a fill its address and last byte.
+fn parts(line: &str) -> (u8, u32, u8) {
+    match parse(line.as_bytes()) {
+        Ok(Command::Write { offset, value }) => (b'W', u32::from(offset), value),
+        Ok(Command::Read { offset }) => (b'R', u32::from(offset), 0),
+        Ok(Command::Fill { address, digits }) => {
+            let count = data_count(digits);
+            (
+                b'F',
+                address,
+                if count > 0 {
+                    byte_at(digits, count - 1)
+                } else {
+                    0
+                },
+            )
+        }
+        Ok(Command::Show { address, count }) => (b'M', address, count),
+        Err(refusal) => (b'E', 0, refusal.number()),
+    }
+}
+
+#[test]
+fn good_lines() -> Result<(), Fail> {
+    check_eq(parts("W 05 2A"), (b'W', 0x05, 0x2A))?;
+    check_eq(parts("R F0"), (b'R', 0xF0, 0))?;
+    check_eq(parts("F 00010A 7F"), (b'F', 0x00010A, 0x7F))?;
+    check_eq(
+        parts("F 123456 000102030405060708090A0B0C0D0E0F"),
+        (b'F', 0x123456, 0x0F),
+    )?;
+    check_eq(parts("M FFFFFE 00"), (b'M', 0xFFFFFE, 0))
+}
+
+#[test]
+fn bad_lines() -> Result<(), Fail> {
+    let lines = [
+        "",
+        " ",
+        "W",
+        "w 05 2A",
+        "W 05 2a",
+        "W 05  2A",
+        "W 05 2A ",
+        " W 05 2A",
+        "W 05 2A\r",
+        "W 05 2",
+        "W,05,2A",
+        "R 5",
+        "R 005",
+        "F 000100 ",
+        "F 000100 4",
+        "F 000100 4A6",
+        "F 000100 4A 6F",
+        "F 000100 4G",
+        "F 000100 000102030405060708090A0B0C0D0E0F10",
+        "M 000100",
+        "M 0100 04",
+        "M 000100 4",
+        "X 00",
+    ];
+    for line in lines {
+        check_eq(parts(line), (b'E', 0, 6)).note(line)?;
+    }
+    Ok(())
+}
+
+#[test]
+fn lines_of_a_script() -> Result<(), Fail> {
+    check_eq(count_lines(b""), 0)?;
+    check_eq(count_lines(b"\n"), 1)?;
+    check_eq(count_lines(b"R 00\n\nR 01"), 3)?;
+    check_eq(count_lines(b"R 00\n\nR 01\n"), 3)?;
+    let script = b"R 00\nR 01";
+    check(first_line(script) == b"R 00")?;
+    check(after_line(script, 4) == b"R 01")?;
+    check(after_line(script, 9).is_empty())
+}
+
+#[test]
+fn answers(rt: LibcRuntime) -> Result<(), Fail> {
+    let mut out = Vec::new(rt.alloc());
+    put_ok(&mut out)?;
+    put_byte(&mut out, 0x2A)?;
+    put_refusal(&mut out, Refusal::NoCommand)?;
+    put_refusal(&mut out, Refusal::TraceFull)?;
+    check(out.as_slice() == b"OK\n2A\nE 06\nE 10\n")
+}
