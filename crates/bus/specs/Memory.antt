@@ -70,3 +70,13 @@ flat bytes = record {
   space = λ c. 0;
   byte = λ s a. cond (eqb s 0) (getD bytes a 0) 0;
 }
+
+-- Two memories side by side: codes 0 to 3 go to the lower, the others to the upper. Space s of the upper is 2 s, and
+-- of the lower 2 s + 1, so that they have no space in common.
+abbrev pub split : MemoryMeaning → MemoryMeaning → MemoryMeaning
+split upper lower = record {
+  readable = λ c a. cond (ltb c 4) (lower .readable c a) (upper .readable c a);
+  writable = λ c a. cond (ltb c 4) (lower .writable c a) (upper .writable c a);
+  space = λ c. cond (ltb c 4) (2 * lower .space c + 1) (2 * upper .space c);
+  byte = λ s a. cond (eqb (s % 2) 0) (upper .byte (s / 2) a) (lower .byte (s / 2) a);
+}

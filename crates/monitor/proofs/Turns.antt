@@ -6,7 +6,8 @@ use mathlib.Core.List.{List, [], _∷_, _++_, append-assoc}
 use native.Mathlib.Omega.{arith}
 use lib.ListN.{getD, drop, length}
 use Rattle.std.proofs.shelf.Lists.{at-drop-more, at-drop-all}
-use Rattle.bus.specs.Memory.{MemoryMeaning, byte-written}
+use Rattle.bus.specs.Memory.{MemoryMeaning}
+use Rattle.bus.specs.Store.{is-storable, stored}
 use Rattle.script.specs.Lines.{lines, first-line}
 use Rattle.script.specs.Text.{hex-text}
 use Rattle.script.proofs.Walk.{lines-step}
@@ -14,14 +15,14 @@ use Rattle.monitor.specs.Area.{takes-all, filled, byte-shown, area-text}
 use Rattle.monitor.specs.Monitor.{Session, line-done, lines-done}
 
 pub fill-next : (a i : ℕ) (bs : List ℕ) (m : MemoryMeaning) → i < length bs
-    → filled a (drop i bs) m ≡ filled (a + 1) (drop (i + 1) bs) (byte-written 5 a (getD bs i 0) m)
+    → filled a (drop i bs) m ≡ filled (a + 1) (drop (i + 1) bs) (stored 5 a (getD bs i 0) m .memory)
 fill-next a i bs m h = at-drop-more (λ xs. filled a xs m) bs i 0 h
 
 pub fill-end : (a i : ℕ) (bs : List ℕ) (m : MemoryMeaning) → length bs ≤ i → filled a (drop i bs) m ≡ m
 fill-end a i bs m h = at-drop-all (λ xs. filled a xs m) bs i h
 
 pub takes-next : (a i : ℕ) (bs : List ℕ) (m : MemoryMeaning) → i < length bs
-    → takes-all a (drop i bs) m ≡ (m .writable 5 a && takes-all (a + 1) (drop (i + 1) bs) m)
+    → takes-all a (drop i bs) m ≡ (is-storable 5 a m && takes-all (a + 1) (drop (i + 1) bs) m)
 takes-next a i bs m h = at-drop-more (λ xs. takes-all a xs m) bs i 0 h
 
 pub takes-end : (a i : ℕ) (bs : List ℕ) (m : MemoryMeaning) → length bs ≤ i → takes-all a (drop i bs) m ≡ true

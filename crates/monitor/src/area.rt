@@ -1,5 +1,7 @@
 // Filling and showing areas of a memory.
 use bus::memory::Memory;
+use bus::store::is_storable;
+use bus::store::store;
 use script::text::byte_at;
 use script::text::data_count;
 use script::text::put_pair;
@@ -31,7 +33,7 @@ pub(crate) fn takes_all<M: Memory>(memory: &M, address: u32, digits: &[u8]) -> b
 {
     let mut at = address;
     for i in 0..data_count(digits) {
-        if !memory.is_writable(CODE, at) {
+        if !is_storable(memory, CODE, at) {
             return false;
         }
         at += 1;
@@ -45,7 +47,7 @@ pub(crate) fn fill<M: Memory>(memory: &mut M, address: u32, digits: &[u8])
 {
     let mut at = address;
     for i in 0..data_count(digits) {
-        memory.write(CODE, at, byte_at(digits, i));
+        let _ = store(memory, CODE, at, byte_at(digits, i));
         at += 1;
     }
 }

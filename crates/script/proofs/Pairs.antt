@@ -1,6 +1,6 @@
 -- Each byte of a fill is spelt by the two digits at twice its place, and there are half as many bytes as digits.
 use Prim.Native.Nat.{ℕ, suc, zero, _+_, _*_, _/_, _<_}
-use mathlib.Core.Path.{_≡_, ap, refl, _∙_}
+use mathlib.Core.Path.{_≡_, refl}
 use mathlib.Core.List.{List, [], _∷_}
 use native.Mathlib.Omega.{arith}
 use lib.ListN.{length, getD}

@@ -66,7 +66,7 @@ write-line line =
 abbrev pub read-line : List ℕ → Result Said Refusal
 read-line line = cond (eqb (length line) 4 && blank-at line 1) (and-then (pair-at line 2) (λ offset. Ok (read offset))) no-command
 
--- Whether a line has room for one to sixteen pairs of digits after its first nine bytes, and for nothing else.
+-- The length of a fill: nine bytes, and then one to sixteen pairs of digits, so 11, 13 and so on up to 41.
 abbrev pub fill-length : ℕ → Bool
 fill-length n = leb 11 n && (leb n 41 && eqb (n % 2) 1)
 
@@ -90,6 +90,6 @@ by-letter letter line =
     (cond (eqb letter 70) (fill-line line)
     (cond (eqb letter 77) (show-line line) no-command)))
 
--- The command that a line says. An empty line says none.
+-- The command that a line says. An empty line says none. Every command has at most 41 bytes.
 abbrev pub parsed : List ℕ → Result Said Refusal
 parsed line = cond (eqb (length line) 0) no-command (by-letter (getD line 0 0) line)

@@ -9,7 +9,7 @@
 ghost use mathlib.Core.Path.{_≡_};
 ghost use Prim.Native.Nat.{_+_, _≤_};
 ghost use lib.ListN.{length, drop};
-ghost use Rattle.script.specs.Lines.{lines, before-newline, first-line};
+ghost use Rattle.script.specs.Lines.{before-newline, first-line};
 
 // The place of the first newline, or the end.
 fn line_end(script: &[u8]) -> usize
@@ -31,7 +31,7 @@ pub fn first_line<'a>(script: &'a [u8]) -> &'a [u8]
     script.split_at(line_end(script)).0
 }
 
-// What follows a line that ends at the place `end`, and its newline.
+// What follows a first line that ends at the place `end`, and its newline.
 pub fn after_line<'a>(script: &'a [u8], end: usize) -> &'a [u8]
     ensures { λ r. ⌜ now r ≡ drop (end + 1) (now (script .entry)) ⌝ }
 {
@@ -40,18 +40,4 @@ pub fn after_line<'a>(script: &'a [u8], end: usize) -> &'a [u8]
     } else {
         &[]
     }
-}
-
-// How many lines a script has.
-pub fn count_lines(script: &[u8]) -> usize
-    ensures { λ r. ⌜ r ≡ length (lines (now (script .entry))) ⌝ }
-{
-    let mut rest = script;
-    let mut count = 0;
-    while !rest.is_empty() {
-        let line = first_line(rest);
-        rest = after_line(rest, line.len());
-        count += 1;
-    }
-    count
 }

@@ -1,4 +1,4 @@
-// What a line says. Each function after the first two takes one form of line.
+// What a line says: the numbers in it, then one function for each form of line, then the choice by the letter.
 use crate::command::Command;
 use crate::digits::all_digits;
 use crate::digits::digit;
@@ -13,9 +13,10 @@ fn pair_at(line: &[u8], place: usize) -> Result<u8, Refusal>
     requires { ⌜ place + 1 < length (now line) ⌝ }
     ensures { λ r. ⌜ r ≡ pair-at (now (line .entry)) place ⌝ }
 {
-    let high = digit(line[place]).ok_or(Refusal::NoCommand)?;
-    let low = digit(line[place + 1]).ok_or(Refusal::NoCommand)?;
-    Ok(16 * high + low)
+    match (digit(line[place]), digit(line[place + 1])) {
+        (Some(high), Some(low)) => Ok(16 * high + low),
+        _ => Err(Refusal::NoCommand),
+    }
 }
 
 // The address that the six digits at `place` spell.

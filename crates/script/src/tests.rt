@@ -1,6 +1,5 @@
 use crate::command::Command;
 use crate::lines::after_line;
-use crate::lines::count_lines;
 use crate::lines::first_line;
 use crate::parse::parse;
 use crate::text::byte_at;
@@ -11,23 +10,12 @@ use crate::text::put_refusal;
 use refusal::kinds::Refusal;
 use std::test::*;
 
-// The letter and the numbers of a command, and of a fill its address and last byte.
+// The letter and the numbers of a command, and of a fill its address and first byte.
 fn parts(line: &str) -> (u8, u32, u8) {
     match parse(line.as_bytes()) {
         Ok(Command::Write { offset, value }) => (b'W', u32::from(offset), value),
         Ok(Command::Read { offset }) => (b'R', u32::from(offset), 0),
-        Ok(Command::Fill { address, digits }) => {
-            let count = data_count(digits);
-            (
-                b'F',
-                address,
-                if count > 0 {
-                    byte_at(digits, count - 1)
-                } else {
-                    0
-                },
-            )
-        }
+        Ok(Command::Fill { address, digits }) => (b'F', address, byte_at(digits, 0)),
         Ok(Command::Show { address, count }) => (b'M', address, count),
         Err(refusal) => (b'E', 0, refusal.number()),
     }
@@ -35,14 +23,20 @@ fn parts(line: &str) -> (u8, u32, u8) {
 
 #[test]
 fn good_lines() -> Result<(), Fail> {
-    check_eq(parts("W 05 2A"), (b'W', 0x05, 0x2A))?;
-    check_eq(parts("R F0"), (b'R', 0xF0, 0))?;
-    check_eq(parts("F 00010A 7F"), (b'F', 0x00010A, 0x7F))?;
-    check_eq(
-        parts("F 123456 000102030405060708090A0B0C0D0E0F"),
-        (b'F', 0x123456, 0x0F),
-    )?;
-    check_eq(parts("M FFFFFE 00"), (b'M', 0xFFFFFE, 0))
+    let lines = [
+        ("W 05 2A", (b'W', 0x05, 0x2A)),
+        ("R F0", (b'R', 0xF0, 0)),
+        ("F 00010A 7F", (b'F', 0x00010A, 0x7F)),
+        (
+            "F 123456 0F0102030405060708090A0B0C0D0E00",
+            (b'F', 0x123456, 0x0F),
+        ),
+        ("M FFFFFE 00", (b'M', 0xFFFFFE, 0)),
+    ];
+    for (line, said) in lines {
+        check_eq(parts(line), said).note(line)?;
+    }
+    Ok(())
 }
 
 #[test]
@@ -79,15 +73,19 @@ fn bad_lines() -> Result<(), Fail> {
 }
 
 #[test]
+fn data_of_a_fill() -> Result<(), Fail> {
+    check_eq(data_count(b"007F0"), 2)?;
+    check_eq(byte_at(b"007F0", 1), 0x7F)?;
+    check_eq(byte_at(b"007F0", 2), 0)
+}
+
+#[test]
 fn lines_of_a_script() -> Result<(), Fail> {
-    check_eq(count_lines(b""), 0)?;
-    check_eq(count_lines(b"\n"), 1)?;
-    check_eq(count_lines(b"R 00\n\nR 01"), 3)?;
-    check_eq(count_lines(b"R 00\n\nR 01\n"), 3)?;
     let script = b"R 00\nR 01";
     check(first_line(script) == b"R 00")?;
     check(after_line(script, 4) == b"R 01")?;
-    check(after_line(script, 9).is_empty())
+    check(after_line(script, 9).is_empty())?;
+    check(first_line(b"\nR 01").is_empty())
 }
 
 #[test]

@@ -4,12 +4,12 @@ use refusal::kinds::Refusal;
 use std::alloc::AllocError;
 ghost use mathlib.Core.Path.{_≡_};
 ghost use mathlib.Core.List.{_++_};
+ghost use Prim.Native.Nat.{_/_, _<_};
 ghost use lib.ListN.{length, getD};
 ghost use Rattle.std.specs.Of.Vec.{vec-items};
 ghost use Rattle.std.specs.Vec.{made};
 ghost use Rattle.script.specs.Digits.{digit-value, data-bytes};
 ghost use Rattle.script.specs.Text.{hex-code, hex-text, newline, ok-text, byte-text, refusal-text};
-ghost use Prim.Native.Nat.{_/_, _<_};
 
 // The value of a digit, where a byte that is none counts 0.
 fn value(code: u8) -> u8
@@ -57,25 +57,32 @@ pub fn hex_pair(byte: u8) -> [u8; 2]
     [digit_code(byte / 16), digit_code(byte % 16)]
 }
 
+// Adds `text` to what `out` holds.
+fn put(out: &mut Vec<u8>, text: &[u8]) -> Result<(), AllocError>
+    ensures { λ r. ⌜ made r (λ _. vec-items (now (out .exit)) ≡ vec-items (now (out .entry)) ++ now (text .entry)) ⌝ }
+{
+    out.extend_from_slice(text)
+}
+
 // Adds a byte as two digits to `out`.
 pub fn put_pair(out: &mut Vec<u8>, byte: u8) -> Result<(), AllocError>
     ensures { λ r. ⌜ made r (λ _. vec-items (now (out .exit)) ≡ vec-items (now (out .entry)) ++ hex-text byte) ⌝ }
 {
-    out.extend_from_slice(&hex_pair(byte))
+    put(out, &hex_pair(byte))
 }
 
 // Ends the line that `out` ends with.
 pub fn put_newline(out: &mut Vec<u8>) -> Result<(), AllocError>
     ensures { λ r. ⌜ made r (λ _. vec-items (now (out .exit)) ≡ vec-items (now (out .entry)) ++ newline) ⌝ }
 {
-    out.extend_from_slice(b"\n")
+    put(out, b"\n")
 }
 
 // Adds the answer `OK`.
 pub fn put_ok(out: &mut Vec<u8>) -> Result<(), AllocError>
     ensures { λ r. ⌜ made r (λ _. vec-items (now (out .exit)) ≡ vec-items (now (out .entry)) ++ ok-text) ⌝ }
 {
-    out.extend_from_slice(b"OK\n")
+    put(out, b"OK\n")
 }
 
 // Adds the answer that is a byte, as `2A`.
@@ -83,7 +90,7 @@ pub fn put_byte(out: &mut Vec<u8>, byte: u8) -> Result<(), AllocError>
     ensures { λ r. ⌜ made r (λ _. vec-items (now (out .exit)) ≡ vec-items (now (out .entry)) ++ byte-text byte) ⌝ }
 {
     let [high, low] = hex_pair(byte);
-    out.extend_from_slice(&[high, low, b'\n'])
+    put(out, &[high, low, b'\n'])
 }
 
 // Adds the answer that is a refusal, as `E 06`.
@@ -91,5 +98,6 @@ pub fn put_refusal(out: &mut Vec<u8>, refusal: Refusal) -> Result<(), AllocError
     ensures { λ r. ⌜ made r (λ _. vec-items (now (out .exit)) ≡ vec-items (now (out .entry)) ++ refusal-text refusal) ⌝ }
 {
     let number = refusal.number();
-    out.extend_from_slice(&[b'E', b' ', b'0' + number / 10, b'0' + number % 10, b'\n'])
+    let text = [b'E', b' ', b'0' + number / 10, b'0' + number % 10, b'\n'];
+    put(out, &text)
 }

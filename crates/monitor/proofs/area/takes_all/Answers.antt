@@ -3,8 +3,8 @@ use borrow.Author.Needs.{needs}
 use Rattle.monitor.proofs.Turns.{takes-next, takes-end}
 use Rattle.monitor.proofs.area.takes_all.Needs as need
 
-pub returns-then-not-is-writable : need.returns-then-not-is-writable
-returns-then-not-is-writable g c = search (needs, takes-next)
+pub returns-then-not-is-storable : need.returns-then-not-is-storable
+returns-then-not-is-storable g c = search (needs, takes-next)
 
 pub loop-i-again : need.loop-i-again
 loop-i-again g c = search (needs, takes-next)

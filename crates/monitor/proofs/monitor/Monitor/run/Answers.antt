@@ -12,7 +12,7 @@ loop-rest-less g c = search (needs, rest-shorter)
 pub loop-rest-again : need.loop-rest-again
 loop-rest-again g c =
     let h : 0 < length (c .loop-rest .rest .now) = search needs in
-    script-turn _ _ _ _ _ _ h (c .first-line-line .ensures) (c .after-line-rest .ensures) (c .in-Continue-line .ensures tt) (c .loop-rest .inv)
+    script-turn (c .loop-rest .rest .now) (c .first-line-line .result .now) (c .after-line-rest .result .now) _ _ _ h (c .first-line-line .ensures) (c .after-line-rest .ensures) (c .in-Continue-line .ensures tt) (c .loop-rest .inv)
 
 pub returns : need.returns
 returns g c = search (needs, lines-end)
