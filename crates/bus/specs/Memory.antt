@@ -51,16 +51,14 @@ is-word-readable c a m = m .readable c a && m .readable c (low-address a)
 abbrev pub is-word-writable : ℕ → ℕ → MemoryMeaning → Bool
 is-word-writable c a m = m .writable c a && m .writable c (low-address a)
 
--- Its high byte has the lower address.
-abbrev pub word-at : ℕ → ℕ → MemoryMeaning → ℕ
-word-at c a m = byte-at c a m * 256 + byte-at c (low-address a) m
+-- Reading an answered word gives its two bytes, the high one first: it has the lower address.
+abbrev pub word-read : ℕ → ℕ → MemoryMeaning → Option (ℕ × ℕ)
+word-read c a m = cond (is-word-readable c a m) (Some (byte-at c a m, byte-at c (low-address a) m)) None
 
-abbrev pub word-read : ℕ → ℕ → MemoryMeaning → Option ℕ
-word-read c a m = cond (is-word-readable c a m) (Some (word-at c a m)) None
-
-abbrev pub word-written : ℕ → ℕ → ℕ → MemoryMeaning → MemoryMeaning
-word-written c a v m =
-    cond (is-word-writable c a m) (byte-set c (low-address a) (v % 256) (byte-set c a (v / 256) m)) m
+-- Writing an answered word sets those two bytes alone.
+abbrev pub word-written : ℕ → ℕ → ℕ → ℕ → MemoryMeaning → MemoryMeaning
+word-written c a high low m =
+    cond (is-word-writable c a m) (byte-set c (low-address a) low (byte-set c a high m)) m
 
 -- A flat memory over given bytes: one space, number 0, and every code answered below their number.
 abbrev pub flat : List ℕ → MemoryMeaning

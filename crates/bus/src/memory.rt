@@ -33,7 +33,8 @@ pub trait Memory {
         self.is_writable(code, address) && self.is_writable(code, address.wrapping_add(1))
     }
 
-    fn read_word(&self, code: u8, address: u32) -> Option<u16>
+    // The two bytes of a word, the high one first, if both are answered.
+    fn read_word(&self, code: u8, address: u32) -> Option<(u8, u8)>
         ensures { λ r. ⌜ r ≡ word-read code address (means (now (self .entry))) ⌝ }
     {
         let Some(high) = self.read(code, address) else {
@@ -42,15 +43,16 @@ pub trait Memory {
         let Some(low) = self.read(code, address.wrapping_add(1)) else {
             return None;
         };
-        Some(u16::from_be_bytes([high, low]))
+        Some((high, low))
     }
 
-    fn write_word(&mut self, code: u8, address: u32, word: u16)
-        ensures { λ _. ⌜ means (now (self .exit)) ≡ word-written code address word (means (now (self .entry))) ⌝ }
+    // Sets the two bytes of a word, if both are answered; otherwise nothing changes.
+    fn write_word(&mut self, code: u8, address: u32, high: u8, low: u8)
+        ensures { λ _. ⌜ means (now (self .exit)) ≡ word-written code address high low (means (now (self .entry))) ⌝ }
     {
         if self.is_word_writable(code, address) {
-            self.write(code, address, (word >> 8) as u8);
-            self.write(code, address.wrapping_add(1), (word % 256) as u8);
+            self.write(code, address, high);
+            self.write(code, address.wrapping_add(1), low);
         }
     }
 }

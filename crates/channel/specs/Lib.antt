@@ -3,3 +3,5 @@ pub mod State
 pub mod Start
 pub mod Write
 pub mod Read
+pub mod Requests
+pub mod Operation

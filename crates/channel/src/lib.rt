@@ -10,5 +10,7 @@
 // checks of a start and what it leaves), Write and Read (register access).
 pub mod access;
 pub mod decode;
+pub mod operation;
+pub mod requests;
 pub mod start;
 pub mod state;

@@ -1,5 +1,5 @@
 -- What a device bank means.
-use Prim.Native.Nat.{ℕ, _+_, _-_, _*_, _/_, _%_}
+use Prim.Native.Nat.{ℕ, _-_}
 use mathlib.Core.Bool.{Bool, true, false, cond, _&&_}
 use mathlib.Core.List.{List, [], _∷_, _++_}
 use lib.Dec.{eqb, ltb, leb}
@@ -43,23 +43,12 @@ give-tried c n b = cond (can-give c n b) (given c n b) b
 abbrev pub take-tried : ℕ → List ℕ → BankMeaning → BankMeaning
 take-tried c bytes b = cond (can-take c (length bytes) b) (taken c bytes b) b
 
--- The byte that waits first, and the word: its high byte passes first.
-abbrev pub byte-waiting : ℕ → BankMeaning → ℕ
-byte-waiting c b = getD (b .waiting c) 0 0
-
-abbrev pub word-waiting : ℕ → BankMeaning → ℕ
-word-waiting c b = getD (b .waiting c) 0 0 * 256 + getD (b .waiting c) 1 0
-
--- What giving hands over, if the bank is ready.
+-- What giving hands over, if the bank is ready: the byte that waits first, or the first two, in their order.
 abbrev pub byte-handed : ℕ → BankMeaning → Option ℕ
-byte-handed c b = cond (can-give c 1 b) (Some (byte-waiting c b)) None
+byte-handed c b = cond (can-give c 1 b) (Some (getD (b .waiting c) 0 0)) None
 
-abbrev pub word-handed : ℕ → BankMeaning → Option ℕ
-word-handed c b = cond (can-give c 2 b) (Some (word-waiting c b)) None
-
--- The bytes of a word, in the order in which they pass a device.
-abbrev pub word-bytes : ℕ → List ℕ
-word-bytes w = w / 256 ∷ w % 256 ∷ []
+abbrev pub word-handed : ℕ → BankMeaning → Option (ℕ × ℕ)
+word-handed c b = cond (can-give c 2 b) (Some (getD (b .waiting c) 0 0, getD (b .waiting c) 1 0)) None
 
 -- A bank in which nothing waits and no place is free.
 abbrev pub nothing : BankMeaning

@@ -1,7 +1,7 @@
 // A bank of devices, by what it means.
 ghost use mathlib.Core.Path.{_≡_};
 ghost use mathlib.Core.List.{[], _∷_};
-ghost use Rattle.devices.specs.Bank.{BankMeaning, can-give, can-take, give-tried, take-tried, byte-handed, word-handed, word-bytes};
+ghost use Rattle.devices.specs.Bank.{BankMeaning, can-give, can-take, give-tried, take-tried, byte-handed, word-handed};
 
 pub trait DeviceBank {
     ghost bank: { Self → BankMeaning };
@@ -23,8 +23,8 @@ pub trait DeviceBank {
     fn take(&mut self, channel: u8, byte: u8)
         ensures { λ _. ⌜ bank (now (self .exit)) ≡ take-tried channel (byte ∷ []) (bank (now (self .entry))) ⌝ };
 
-    // Hands over two bytes, the first as the high one, if two wait.
-    fn give_word(&mut self, channel: u8) -> Option<u16>
+    // Hands over two bytes, the high one first, if two wait.
+    fn give_word(&mut self, channel: u8) -> Option<(u8, u8)>
         ensures word { λ r. ⌜ r ≡ word-handed channel (bank (now (self .entry))) ⌝ }
         ensures after { λ _. ⌜ bank (now (self .exit)) ≡ give-tried channel 2 (bank (now (self .entry))) ⌝ }
     {
@@ -37,16 +37,16 @@ pub trait DeviceBank {
         let Some(low) = self.give(channel) else {
             return None;
         };
-        Some(u16::from_be_bytes([high, low]))
+        Some((high, low))
     }
 
     // Keeps two bytes, the high one first, if two places are free.
-    fn take_word(&mut self, channel: u8, word: u16)
-        ensures { λ _. ⌜ bank (now (self .exit)) ≡ take-tried channel (word-bytes word) (bank (now (self .entry))) ⌝ }
+    fn take_word(&mut self, channel: u8, high: u8, low: u8)
+        ensures { λ _. ⌜ bank (now (self .exit)) ≡ take-tried channel (high ∷ low ∷ []) (bank (now (self .entry))) ⌝ }
     {
         if self.can_take(channel, 2) {
-            self.take(channel, (word >> 8) as u8);
-            self.take(channel, (word % 256) as u8);
+            self.take(channel, high);
+            self.take(channel, low);
         }
     }
 }

@@ -2,7 +2,7 @@
 //
 //     let mut devices = Pair::new(1, Tape::new(0, b"abc"), Tape::new(2, b"xyz"));
 //     devices.can_give(0, 2)                       // true
-//     devices.give_word(0)                         // Some(0x6162)
+//     devices.give_word(0)                         // Some((0x61, 0x62))
 //     devices.give(2)                              // Some(0x78)
 //     devices.can_take(2, 1)                       // false: a tape takes nothing
 //

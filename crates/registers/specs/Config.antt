@@ -1,10 +1,10 @@
 -- The fields of the configuration registers.
-use Prim.Native.Nat.{ℕ, _/_}
+use Prim.Native.Nat.{ℕ, _+_, _-_, _*_, _/_, _%_}
 use mathlib.Core.Bool.{Bool, not, _&&_, _||_, cond}
 use lib.Bits.{bitAnd}
 use lib.Dec.{eqb, leb}
 use Rattle.registers.specs.Bits.{any, odd}
-use Rattle.registers.specs.Groups.{Config}
+use Rattle.registers.specs.Groups.{Config, Size, Byte, Word, Long, Chain, Plain, Array, Linked}
 
 -- DCR, device control. XRM, bits 7-6: 0 burst, 2 and 3 cycle steal, 1 none.
 abbrev pub xrm : Config → ℕ
@@ -48,6 +48,47 @@ is-chained k = leb 2 (chain-field k)
 
 abbrev pub is-array : Config → Bool
 is-array k = eqb (chain-field k) 2
+
+-- XRM 0: the request line counts while it is on; otherwise a change from off to on does.
+abbrev pub is-burst : Config → Bool
+is-burst k = eqb (xrm k) 0
+
+-- DIR, bit 7 of OCR: from the device to memory, else from memory to the device.
+abbrev pub is-inward : Config → Bool
+is-inward k = any 0x80 (k .ocr)
+
+-- The device side of an operand is memory too: DTYP 0 with automatic requests.
+abbrev pub is-device-memory : Config → Bool
+is-device-memory k = eqb (dtyp k) 0 && leb (reqg k) 1
+
+abbrev pub size-of : Config → Size
+size-of k = cond (eqb (size-field k) 0) Byte (cond (eqb (size-field k) 1) Word Long)
+
+abbrev pub chain-of : Config → Chain
+chain-of k = cond (eqb (chain-field k) 2) Array (cond (eqb (chain-field k) 3) Linked Plain)
+
+abbrev pub bytes-of : Size → ℕ
+bytes-of Byte = 1
+bytes-of Word = 2
+bytes-of Long = 4
+
+-- An address register moved on by n: 0 still, 1 up, 2 down, modulo 2^32.
+abbrev pub moved : ℕ → ℕ → ℕ → ℕ
+moved count n a =
+    cond (eqb count 1) ((a + n) % 4294967296)
+    (cond (eqb count 2) ((a + (4294967296 - n)) % 4294967296) a)
+
+-- MAR after an operand: moved on by its bytes, as MAC says.
+abbrev pub next-mar : Config → ℕ → ℕ
+next-mar k a = moved (mac k) (bytes-of (size-of k)) a
+
+-- DAR after an operand: moved on by its bytes, by twice as many for an 8-bit port, as DAC says; under single addressing
+-- it stays.
+abbrev pub stride : Config → ℕ
+stride k = cond (is-port16 k) (bytes-of (size-of k)) (2 * bytes-of (size-of k))
+
+abbrev pub next-dar : Config → ℕ → ℕ
+next-dar k a = cond (is-single k) a (moved (dac k) (stride k) a)
 
 -- An operand above a byte must not lie at an odd address.
 abbrev pub is-misplaced : Config → ℕ → Bool

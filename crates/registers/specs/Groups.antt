@@ -6,3 +6,7 @@ pub use Rattle.registers.specs.declared.groups.Status.{Status}
 pub use Rattle.registers.specs.declared.groups.Control.{Control}
 pub use Rattle.registers.specs.declared.groups.Vectors.{Vectors}
 pub use Rattle.registers.specs.declared.groups.Registers.{Registers}
+pub use Rattle.registers.specs.declared.groups.Size.{Size}
+pub use Rattle.registers.specs.declared.groups.Size.the-variants.{Byte, Word, Long}
+pub use Rattle.registers.specs.declared.groups.Chain.{Chain}
+pub use Rattle.registers.specs.declared.groups.Chain.the-variants.{Plain, Array, Linked}

@@ -29,6 +29,17 @@ failed f s = record { csr = bitAnd (bitOr (s .csr) 0x90) 0xF7; cer = cond (is-er
 abbrev pub activated : Status → Status
 activated s = record { csr = bitOr (s .csr) 0x08; cer = s .cer }
 
+-- The end of an operation sets COC and clears ACT; one that the device ends sets NDT too.
+abbrev pub completed : Status → Status
+completed s = record { csr = bitAnd (bitOr (s .csr) 0x80) 0xF7; cer = s .cer }
+
+abbrev pub ended : Status → Status
+ended s = record { csr = bitAnd (bitOr (s .csr) 0xA0) 0xF7; cer = s .cer }
+
+-- The next block of a continued operation sets the block bit.
+abbrev pub block-done : Status → Status
+block-done s = record { csr = bitOr (s .csr) 0x40; cer = s .cer }
+
 -- A 1 in bits 7 to 4 of a written byte clears that bit; clearing ERR clears CER.
 abbrev pub cleared : ℕ → Status → Status
 cleared v s = record { csr = bitAnd (s .csr) (255 - bitAnd v 0xF0); cer = cond (any 0x10 v) 0 (s .cer) }

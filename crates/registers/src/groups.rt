@@ -57,3 +57,19 @@ pub struct Registers {
     pub control: Control,
     pub vectors: Vectors,
 }
+
+// How many bytes an operand has.
+#[derive(Clone, Copy)]
+pub enum Size {
+    Byte,
+    Word,
+    Long,
+}
+
+// Where an operation's blocks come from: the registers alone, an array of entries, or linked entries.
+#[derive(Clone, Copy)]
+pub enum Chain {
+    Plain,
+    Array,
+    Linked,
+}

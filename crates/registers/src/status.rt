@@ -2,7 +2,7 @@
 use crate::fault::Fault;
 use crate::groups::Status;
 ghost use mathlib.Core.Path.{_≡_};
-ghost use Rattle.registers.specs.Status.{is-active, is-block-done, is-busy, failed, activated, cleared};
+ghost use Rattle.registers.specs.Status.{is-active, is-block-done, is-busy, failed, activated, completed, ended, block-done, cleared};
 
 pub const COC: u8 = 0x80;
 
@@ -47,6 +47,25 @@ impl Status {
         ensures { λ _. ⌜ now (self .exit) ≡ activated (now (self .entry)) ⌝ }
     {
         self.csr |= ACT;
+    }
+
+    pub fn complete(&mut self)
+        ensures { λ _. ⌜ now (self .exit) ≡ completed (now (self .entry)) ⌝ }
+    {
+        self.csr = (self.csr | COC) & !ACT;
+    }
+
+    // The device has ended the operation.
+    pub fn end(&mut self)
+        ensures { λ _. ⌜ now (self .exit) ≡ ended (now (self .entry)) ⌝ }
+    {
+        self.csr = (self.csr | (COC | NDT)) & !ACT;
+    }
+
+    pub fn end_block(&mut self)
+        ensures { λ _. ⌜ now (self .exit) ≡ block-done (now (self .entry)) ⌝ }
+    {
+        self.csr |= BLOCK;
     }
 
     // Each of bits 7 to 4 that is 1 in the value is cleared.
