@@ -1,3 +1,6 @@
 pub mod Controller
 pub mod Access
+pub mod Choice
+pub mod Line
+pub mod Step
 pub mod Examples

@@ -8,7 +8,9 @@
 // Every call is refused, and then changes nothing, or does exactly what specs/ says: Controller (the state), Access
 // (register reads and writes), Examples (a table of worked examples, proved).
 pub mod access;
+pub mod answer;
 pub mod controller;
 pub mod examples;
+pub mod step;
 #[cfg(test)]
 mod tests;

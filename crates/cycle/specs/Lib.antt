@@ -1,0 +1,4 @@
+pub mod Plan
+pub mod Held
+pub mod Carry
+pub mod Serve
