@@ -1,22 +1,12 @@
 // Two memories side by side.
 use crate::memory::Memory;
-ghost use mathlib.Core.Path.{_≡_};
 ghost use Rattle.bus.specs.Memory.{split};
 
 // Function codes 4 to 7 go to `upper`, codes 0 to 3 to `lower`; no byte belongs to both.
 #[derive(Drop)]
 pub struct Split<A: Memory, B: Memory> {
-    upper: A,
-    lower: B,
-}
-
-impl<A: Memory, B: Memory> Split<A, B> {
-    pub fn new(upper: A, lower: B) -> Split<A, B>
-        ensures upper { λ r. ⌜ r .upper ≡ upper ⌝ }
-        ensures lower { λ r. ⌜ r .lower ≡ lower ⌝ }
-    {
-        Split { upper, lower }
-    }
+    pub upper: A,
+    pub lower: B,
 }
 
 pub impl<A: Memory, B: Memory> Memory for Split<A, B> as SplitMemory {

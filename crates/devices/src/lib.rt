@@ -11,4 +11,5 @@
 pub mod bank;
 pub mod none;
 pub mod pair;
+pub mod printer;
 pub mod tape;

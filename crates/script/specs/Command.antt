@@ -11,7 +11,7 @@ use Rattle.std.specs.declared.result.Result.the-variants.{Ok, Err}
 use Rattle.refusal.specs.declared.kinds.Refusal.{Refusal}
 use Rattle.refusal.specs.declared.kinds.Refusal.the-variants.{NoCommand}
 use Rattle.script.specs.declared.command.Command.{Command}
-use Rattle.script.specs.declared.command.Command.the-variants.{Write, Read, Fill, Show}
+use Rattle.script.specs.declared.command.Command.the-variants.{Write, Read, Fill, Show, Run}
 use Rattle.script.specs.Digits.{hex-digit, all-digits}
 
 -- What a command says: as the command itself, with the digits of a fill as a list.
@@ -20,6 +20,7 @@ pub data Said : Type 0 where
   read : ℕ → Said
   fill : ℕ → List ℕ → Said
   show : ℕ → ℕ → Said
+  run : ℕ → Said
 
 -- What an answer of `parse` says.
 abbrev pub said : Result Command Refusal → Result Said Refusal
@@ -27,6 +28,7 @@ said (Ok (Write offset value)) = Ok (write offset value)
 said (Ok (Read offset)) = Ok (read offset)
 said (Ok (Fill address digits)) = Ok (fill address (now digits))
 said (Ok (Show address count)) = Ok (show address count)
+said (Ok (Run steps)) = Ok (run steps)
 said (Err refusal) = Err refusal
 
 -- Every line that is not a command is refused in one way.
@@ -82,13 +84,18 @@ show-line line =
     cond (eqb (length line) 11 && (blank-at line 1 && blank-at line 8))
     (and-then (address-at line 2) (λ address. and-then (pair-at line 9) (λ count. Ok (show address count)))) no-command
 
--- The command of a line by its letter: 87 is 'W', 82 is 'R', 70 is 'F' and 77 is 'M'.
+-- `S nn`
+abbrev pub run-line : List ℕ → Result Said Refusal
+run-line line = cond (eqb (length line) 4 && blank-at line 1) (and-then (pair-at line 2) (λ steps. Ok (run steps))) no-command
+
+-- The command of a line by its letter: 87 is 'W', 82 is 'R', 70 is 'F', 77 is 'M' and 83 is 'S'.
 abbrev pub by-letter : ℕ → List ℕ → Result Said Refusal
 by-letter letter line =
     cond (eqb letter 87) (write-line line)
     (cond (eqb letter 82) (read-line line)
     (cond (eqb letter 70) (fill-line line)
-    (cond (eqb letter 77) (show-line line) no-command)))
+    (cond (eqb letter 77) (show-line line)
+    (cond (eqb letter 83) (run-line line) no-command))))
 
 -- The command that a line says. An empty line says none. Every command has at most 41 bytes.
 abbrev pub parsed : List ℕ → Result Said Refusal

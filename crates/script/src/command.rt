@@ -6,4 +6,5 @@ pub enum Command<'a> {
     // The data are pairs of digits, and stay where they stand in the line.
     Fill { address: u32, digits: &'a [u8] },
     Show { address: u32, count: u8 },
+    Run { steps: u8 },
 }

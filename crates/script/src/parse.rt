@@ -6,7 +6,7 @@ use refusal::kinds::Refusal;
 ghost use mathlib.Core.Path.{_≡_};
 ghost use Prim.Native.Nat.{_+_, _<_};
 ghost use lib.ListN.{length};
-ghost use Rattle.script.specs.Command.{said, pair-at, address-at, write-line, read-line, fill-line, show-line, by-letter, parsed};
+ghost use Rattle.script.specs.Command.{said, pair-at, address-at, write-line, read-line, fill-line, show-line, run-line, by-letter, parsed};
 
 // The byte that the two digits at `place` spell.
 fn pair_at(line: &[u8], place: usize) -> Result<u8, Refusal>
@@ -81,6 +81,17 @@ fn show_line<'a>(line: &'a [u8]) -> Result<Command<'a>, Refusal>
     Ok(Command::Show { address, count })
 }
 
+// `S nn`
+fn run_line<'a>(line: &'a [u8]) -> Result<Command<'a>, Refusal>
+    ensures { λ r. ⌜ said r ≡ run-line (now (line .entry)) ⌝ }
+{
+    if line.len() != 4 || line[1] != b' ' {
+        return Err(Refusal::NoCommand);
+    }
+    let steps = pair_at(line, 2)?;
+    Ok(Command::Run { steps })
+}
+
 // The command of `line`, whose first byte is `letter`.
 fn by_letter<'a>(letter: char, line: &'a [u8]) -> Result<Command<'a>, Refusal>
     ensures { λ r. ⌜ said r ≡ by-letter letter (now (line .entry)) ⌝ }
@@ -90,6 +101,7 @@ fn by_letter<'a>(letter: char, line: &'a [u8]) -> Result<Command<'a>, Refusal>
         'R' => read_line(line),
         'F' => fill_line(line),
         'M' => show_line(line),
+        'S' => run_line(line),
         _ => Err(Refusal::NoCommand),
     }
 }

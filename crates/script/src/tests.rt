@@ -17,6 +17,7 @@ fn parts(line: &str) -> (u8, u32, u8) {
         Ok(Command::Read { offset }) => (b'R', u32::from(offset), 0),
         Ok(Command::Fill { address, digits }) => (b'F', address, byte_at(digits, 0)),
         Ok(Command::Show { address, count }) => (b'M', address, count),
+        Ok(Command::Run { steps }) => (b'S', 0, steps),
         Err(refusal) => (b'E', 0, refusal.number()),
     }
 }
@@ -32,6 +33,7 @@ fn good_lines() -> Result<(), Fail> {
             (b'F', 0x123456, 0x0F),
         ),
         ("M FFFFFE 00", (b'M', 0xFFFFFE, 0)),
+        ("S FF", (b'S', 0, 0xFF)),
     ];
     for (line, said) in lines {
         check_eq(parts(line), said).note(line)?;

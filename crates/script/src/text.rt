@@ -58,7 +58,7 @@ pub fn hex_pair(byte: u8) -> [u8; 2]
 }
 
 // Adds `text` to what `out` holds.
-fn put(out: &mut Vec<u8>, text: &[u8]) -> Result<(), AllocError>
+pub fn put_text(out: &mut Vec<u8>, text: &[u8]) -> Result<(), AllocError>
     ensures { λ r. ⌜ made r (λ _. vec-items (now (out .exit)) ≡ vec-items (now (out .entry)) ++ now (text .entry)) ⌝ }
 {
     out.extend_from_slice(text)
@@ -68,21 +68,21 @@ fn put(out: &mut Vec<u8>, text: &[u8]) -> Result<(), AllocError>
 pub fn put_pair(out: &mut Vec<u8>, byte: u8) -> Result<(), AllocError>
     ensures { λ r. ⌜ made r (λ _. vec-items (now (out .exit)) ≡ vec-items (now (out .entry)) ++ hex-text byte) ⌝ }
 {
-    put(out, &hex_pair(byte))
+    put_text(out, &hex_pair(byte))
 }
 
 // Ends the line that `out` ends with.
 pub fn put_newline(out: &mut Vec<u8>) -> Result<(), AllocError>
     ensures { λ r. ⌜ made r (λ _. vec-items (now (out .exit)) ≡ vec-items (now (out .entry)) ++ newline) ⌝ }
 {
-    put(out, b"\n")
+    put_text(out, b"\n")
 }
 
 // Adds the answer `OK`.
 pub fn put_ok(out: &mut Vec<u8>) -> Result<(), AllocError>
     ensures { λ r. ⌜ made r (λ _. vec-items (now (out .exit)) ≡ vec-items (now (out .entry)) ++ ok-text) ⌝ }
 {
-    put(out, b"OK\n")
+    put_text(out, b"OK\n")
 }
 
 // Adds the answer that is a byte, as `2A`.
@@ -90,7 +90,7 @@ pub fn put_byte(out: &mut Vec<u8>, byte: u8) -> Result<(), AllocError>
     ensures { λ r. ⌜ made r (λ _. vec-items (now (out .exit)) ≡ vec-items (now (out .entry)) ++ byte-text byte) ⌝ }
 {
     let [high, low] = hex_pair(byte);
-    put(out, &[high, low, b'\n'])
+    put_text(out, &[high, low, b'\n'])
 }
 
 // Adds the answer that is a refusal, as `E 06`.
@@ -99,5 +99,5 @@ pub fn put_refusal(out: &mut Vec<u8>, refusal: Refusal) -> Result<(), AllocError
 {
     let number = refusal.number();
     let text = [b'E', b' ', b'0' + number / 10, b'0' + number % 10, b'\n'];
-    put(out, &text)
+    put_text(out, &text)
 }
