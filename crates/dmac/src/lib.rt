@@ -11,6 +11,7 @@ pub mod access;
 pub mod answer;
 pub mod controller;
 pub mod examples;
+pub mod run;
 pub mod step;
 #[cfg(test)]
 mod tests;

@@ -15,7 +15,7 @@ ghost use mathlib.Core.Path.{_≡_};
 ghost use Prim.Native.Nat.{_<_};
 ghost use Rattle.std.specs.Options.{Cases};
 ghost use Rattle.dmac.specs.Choice.{inside-of, counting-of, priorities-of, chosen};
-ghost use Rattle.dmac.specs.Step.{Machine, machine-of, gate-of, failed, step-passed, step-on, is-exception, step-taken};
+ghost use Rattle.dmac.specs.Step.{machine-of, gate-of, failed, step-passed, step-on, step-chosen, step-taken};
 ghost use Rattle.dmac.specs.Line.{line-changed};
 
 // What an exception code makes of the next cycle: it passes, and the controller then holds the bus or not; it is
@@ -167,6 +167,25 @@ impl Dmac {
         }
     }
 
+    // The step of whatever channel is chosen.
+    pub(crate) fn turn<M: Memory, D: DeviceBank>(
+        &mut self,
+        memory: &mut M,
+        devices: &mut D,
+        exception: u8,
+        done: bool,
+    ) -> Answer
+        ensures { λ r. ⌜ record { machine = machine-of (now (self .exit)) (M·Memory .means (now (memory .exit))) (D·DeviceBank .bank (now (devices .exit))); answer = r } ≡ step-chosen (chosen (now (self .entry))) exception done (machine-of (now (self .entry)) (M·Memory .means (now (memory .entry))) (D·DeviceBank .bank (now (devices .entry)))) ⌝ }
+    {
+        match self.chosen() {
+            None => {
+                self.bus = false;
+                Answer::Idle
+            }
+            Some(channel) => self.step_on(memory, devices, channel, exception, done),
+        }
+    }
+
     // One bus step: at most one cycle, of the channel whose turn it is. `done` is the DONE line.
     pub fn step<M: Memory, D: DeviceBank>(
         &mut self,
@@ -182,13 +201,7 @@ impl Dmac {
                 self.reset();
                 Ok(Answer::Reset)
             }
-            3..=7 => match self.chosen() {
-                None => {
-                    self.bus = false;
-                    Ok(Answer::Idle)
-                }
-                Some(channel) => Ok(self.step_on(memory, devices, channel, exception, done)),
-            },
+            3..=7 => Ok(self.turn(memory, devices, exception, done)),
             _ => Err(Refusal::NoException),
         }
     }

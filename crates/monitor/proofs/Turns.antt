@@ -1,17 +1,22 @@
--- One turn of the loops over an area and over a script, and their end.
+-- One turn of the loops over an area, over records and over a script, and their end.
 use Prim.Native.Nat.{ℕ, zero, suc, _+_, _-_, _<_, _≤_}
 use mathlib.Core.Path.{_≡_, refl, subst}
 use mathlib.Core.Bool.{true, _&&_}
 use mathlib.Core.List.{List, [], _∷_, _++_, append-assoc}
+use native.Mathlib.Numerals.{add-one}
 use native.Mathlib.Omega.{arith}
 use lib.ListN.{getD, drop, length}
 use Rattle.std.proofs.shelf.Lists.{at-drop-more, at-drop-all}
+use Rattle.std.specs.declared.option.Option.{Option}
+use Rattle.std.specs.shelf.Maps.{nth}
+use Rattle.cycle.specs.declared.record.Record.{Record}
 use Rattle.bus.specs.Memory.{MemoryMeaning}
 use Rattle.bus.specs.Store.{is-storable, stored}
 use Rattle.script.specs.Lines.{lines, first-line}
 use Rattle.script.specs.Text.{hex-text}
 use Rattle.script.proofs.Walk.{lines-step}
 use Rattle.monitor.specs.Area.{takes-all, filled, byte-shown, area-text}
+use Rattle.monitor.specs.Records.{item-text, records-text}
 use Rattle.monitor.specs.Monitor.{Session, line-done, lines-done}
 
 pub fill-next : (a i : ℕ) (bs : List ℕ) (m : MemoryMeaning) → i < length bs
@@ -51,3 +56,21 @@ pub script-turn : (s line rest : List ℕ) (before after whole : Session) → 0 
     → after ≡ line-done line before → lines-done (lines s) before ≡ whole → lines-done (lines rest) after ≡ whole
 script-turn s line rest before after whole h e f g k =
     rw (f, g, e) (subst (λ (ls : List (List ℕ)). lines-done ls before ≡ whole) (lines-step s h) k)
+
+-- The text of the records from place i on is that of the record there and of those after it.
+record-next : (xs : List Record) (i : ℕ) → i < length xs → records-text (drop i xs) ≡ item-text (nth xs i) ++ records-text (drop (suc i) xs)
+record-next [] i h = absurd (omega arith)
+record-next (x ∷ xs) zero h = refl
+record-next (x ∷ xs) (suc i) h = record-next xs i (omega arith)
+
+-- `before` and `after` are the text at the two ends of a turn, `item` is what the turn looked at
+pub record-turn : (xs : List Record) (i n : ℕ) (item : Option Record) (before after whole : List ℕ) → i < n → n ≡ length xs → item ≡ nth xs i
+    → after ≡ before ++ item-text item → before ++ records-text (drop i xs) ≡ whole → after ++ records-text (drop (i + 1) xs) ≡ whole
+record-turn xs i n item before after whole h l e f g =
+    let n = record-next xs i (omega arith) in
+    let s = append-assoc before (item-text item) (records-text (drop (suc i) xs)) in
+    let a = add-one i in
+    cc
+
+pub records-end : (xs : List Record) (i : ℕ) → length xs ≤ i → records-text (drop i xs) ≡ []
+records-end xs i h = at-drop-all records-text xs i h

@@ -9,11 +9,17 @@ use Rattle.refusal.specs.declared.kinds.Refusal.{Refusal}
 use Rattle.refusal.specs.declared.kinds.Refusal.the-variants.{PastTheEnd, NoPlace}
 use Rattle.bus.specs.Memory.{MemoryMeaning}
 use Rattle.dmac.specs.declared.controller.Dmac.{Dmac}
+use Rattle.cycle.specs.declared.record.Record.{Record}
+use Rattle.devices.specs.Bank.{nothing}
+use Rattle.dmac.specs.declared.run.Ran.{Ran}
 use Rattle.dmac.specs.Access.{Outcome, byte-read, byte-written}
-use Rattle.script.specs.Command.{Said, write, read, fill, show, parsed}
+use Rattle.dmac.specs.Run.{run-taken}
+use Rattle.dmac.specs.Step.{machine-of}
+use Rattle.script.specs.Command.{Said, write, read, fill, show, run, parsed}
 use Rattle.script.specs.Digits.{data-bytes}
 use Rattle.script.specs.Lines.{lines}
 use Rattle.script.specs.Text.{newline, ok-text, byte-text, refusal-text}
+use Rattle.monitor.specs.Records.{records-text, ending-text}
 use Rattle.monitor.specs.Area.{is-past-the-end, takes-all, filled, area-text}
 
 -- The controller, the memory, and the text printed so far.
@@ -64,12 +70,24 @@ abbrev pub show-done : ℕ → ℕ → Session → Session
 show-done a n s =
     cond (is-past-the-end a n) (refused PastTheEnd s) (printed newline (printed (area-text a n (s .memory)) s))
 
+-- `S nn` makes a run of nn steps with devices that are never ready, into an empty trace of 128 places, and prints each record
+-- and why it ended.
+abbrev pub run-shown : Result Ran Refusal → List Record → Session → Session
+run-shown (Ok told) trace s = printed (ending-text (told .ending)) (printed (records-text trace) s)
+run-shown (Err r) trace s = refused r s
+
+abbrev pub run-done : ℕ → Session → Session
+run-done n s =
+    let c = run-taken n 128 (machine-of (s .dmac) (s .memory) nothing) [] in
+    run-shown (c .answer) (c .trace) (session-of (c .machine .dmac) (c .machine .memory) (s .text))
+
 -- A line that is a command is carried out; any other prints its refusal.
 abbrev pub command-done : Result Said Refusal → Session → Session
 command-done (Ok (write o v)) s = write-done o v s
 command-done (Ok (read o)) s = read-done o s
 command-done (Ok (fill a digits)) s = fill-done a (data-bytes digits) s
 command-done (Ok (show a n)) s = show-done a n s
+command-done (Ok (run n)) s = run-done n s
 command-done (Err r) s = refused r s
 
 abbrev pub line-done : List ℕ → Session → Session

@@ -7,3 +7,4 @@
 // specs/Monitor.antt says what each command does and prints; `run` promises the whole of both, for every script.
 pub mod area;
 pub mod monitor;
+pub mod records;

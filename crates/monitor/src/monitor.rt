@@ -3,9 +3,16 @@ use crate::area::fill;
 use crate::area::is_past_the_end;
 use crate::area::put_area;
 use crate::area::takes_all;
+use crate::records::put_ending;
+use crate::records::put_records;
 use bus::memory::Memory;
+use cycle::record::Record;
+use devices::none::NoDevices;
+use devices::none::NoDevicesBank;
 use dmac::controller::Dmac;
+use queue::Queue;
 use refusal::kinds::Refusal;
+use registers::fault::Fault;
 use script::command::Command;
 use script::lines::after_line;
 use script::lines::first_line;
@@ -25,7 +32,7 @@ ghost use Rattle.dmac.specs.Controller.{new-controller};
 ghost use Rattle.script.specs.Digits.{data-bytes};
 ghost use Rattle.script.specs.Lines.{lines};
 ghost use Rattle.script.specs.Text.{refusal-text};
-ghost use Rattle.monitor.specs.Monitor.{Session, session-of, done-text, value-text, write-done, read-done, fill-done, show-done, line-done, lines-done, script-done};
+ghost use Rattle.monitor.specs.Monitor.{Session, session-of, done-text, value-text, write-done, read-done, fill-done, show-done, run-done, line-done, lines-done, script-done};
 
 #[derive(Drop)]
 pub struct Monitor<M: Memory> {
@@ -35,6 +42,9 @@ pub struct Monitor<M: Memory> {
 
 // The most bytes of a script that are read.
 const SCRIPT: usize = 16384;
+
+// The places of the trace of a run.
+const TRACE: usize = 128;
 
 impl<M: Memory> Monitor<M> {
     pub fn new(memory: M) -> Monitor<M>
@@ -87,6 +97,25 @@ impl<M: Memory> Monitor<M> {
         put_newline(out)
     }
 
+    // `S nn`
+    fn run_steps(&mut self, steps: u8, out: &mut Vec<u8>) -> Result<(), AllocError>
+        ensures { λ r. ⌜ made r (λ _. session-of (now (self .exit) .dmac) (M·Memory .means (now (self .exit) .memory)) (vec-items (now (out .exit))) ≡ run-done steps (session-of (now (self .entry) .dmac) (M·Memory .means (now (self .entry) .memory)) (vec-items (now (out .entry))))) ⌝ }
+    {
+        let mut slots = [Record::Error {
+            channel: 0,
+            fault: Fault::Configuration,
+        }; TRACE];
+        let mut trace = Queue::new(&mut slots);
+        let mut devices = NoDevices;
+        match self.dmac.run(&mut self.memory, &mut devices, &mut trace, u16::from(steps)) {
+            Ok(ran) => {
+                put_records(out, &trace)?;
+                put_ending(out, ran.ending)
+            }
+            Err(refusal) => put_refusal(out, refusal),
+        }
+    }
+
     // One line of a script.
     fn line(&mut self, line: &[u8], out: &mut Vec<u8>) -> Result<(), AllocError>
         ensures { λ r. ⌜ made r (λ _. session-of (now (self .exit) .dmac) (M·Memory .means (now (self .exit) .memory)) (vec-items (now (out .exit))) ≡ line-done (now (line .entry)) (session-of (now (self .entry) .dmac) (M·Memory .means (now (self .entry) .memory)) (vec-items (now (out .entry))))) ⌝ }
@@ -96,6 +125,7 @@ impl<M: Memory> Monitor<M> {
             Ok(Command::Read { offset }) => self.read(offset, out),
             Ok(Command::Fill { address, digits }) => self.fill(address, digits, out),
             Ok(Command::Show { address, count }) => self.show(address, count, out),
+            Ok(Command::Run { steps }) => self.run_steps(steps, out),
             Err(refusal) => put_refusal(out, refusal),
         }
     }

@@ -1,10 +1,11 @@
 // The queue and what it can do.
 ghost use mathlib.Core.Path.{_≡_};
-ghost use mathlib.Core.Bool.{cond, not};
+ghost use mathlib.Core.Bool.{false, cond, not};
 ghost use mathlib.Core.List.{[], _∷_, _++_};
 ghost use Prim.Native.Nat.{min, _+_, _<_, _≤_};
 ghost use lib.Dec.{eqb, ltb};
 ghost use lib.ListN.{length, getD, take, drop};
+ghost use Rattle.std.specs.declared.option.Option.the-variants.{Some, None};
 ghost use Rattle.queue.specs.Queue.{from-head, held, capacity-of, item-at, slot-of};
 
 // The oldest element is in the slot `head`, and the `len` elements follow one another from there on; after
@@ -51,12 +52,20 @@ impl<'a, T: Copy> Queue<'a, T> {
         }
     }
 
+    // How many slots are taken.
+    fn taken(&self) -> usize
+        ensures count { λ r. ⌜ r ≡ length (held (now (self .entry))) ⌝ }
+        ensures within { λ r. ⌜ r ≤ capacity-of (now (self .entry)) ⌝ }
+    {
+        self.len.min(self.capacity())
+    }
+
     // How many elements it holds.
     pub fn len(&self) -> usize
         ensures count { λ r. ⌜ r ≡ length (held (now (self .entry))) ⌝ }
         ensures within { λ r. ⌜ r ≤ capacity-of (now (self .entry)) ⌝ }
     {
-        self.len.min(self.capacity())
+        self.taken()
     }
 
     // How many elements it can hold.
@@ -80,10 +89,19 @@ impl<'a, T: Copy> Queue<'a, T> {
         self.len() == 0
     }
 
-    // The element at a place that is taken; the oldest is at 0.
+    // Whether there is an element at a place, of which the oldest is at 0.
+    fn has(&self, index: usize) -> bool
+        ensures answer { λ r. ⌜ r ≡ ltb index (length (held (now (self .entry)))) ⌝ }
+        ensures none { λ r. ⌜ (r ≡ false → item-at (held (now (self .entry))) index ≡ None) ⌝ }
+    {
+        index < self.len()
+    }
+
+    // The element at a place that has one.
     fn item(&self, index: usize) -> T
         requires { ⌜ index < length (held (now self)) ⌝ }
-        ensures { λ r. ⌜ r ≡ getD (held (now (self .entry))) index r ⌝ }
+        ensures read { λ r. ⌜ r ≡ getD (held (now (self .entry))) index r ⌝ }
+        ensures some { λ r. ⌜ item-at (held (now (self .entry))) index ≡ Some r ⌝ }
     {
         read(self.slots, self.head, index)
     }
@@ -92,7 +110,7 @@ impl<'a, T: Copy> Queue<'a, T> {
     pub fn get(&self, index: usize) -> Option<T>
         ensures { λ r. ⌜ r ≡ item-at (held (now (self .entry))) index ⌝ }
     {
-        if index < self.len() {
+        if self.has(index) {
             Some(self.item(index))
         } else {
             None
