@@ -32,119 +32,175 @@ pub struct Slot {
     pub word: bool,
 }
 
+// The cycles that plans are made of: a byte, or a word, at the side's address register or so many bytes further.
+const FROM_MEMORY: Slot = Slot {
+    way: Way::Source,
+    side: Side::Memory,
+    offset: 0,
+    word: false,
+};
+
+const FROM_MEMORY_WORD: Slot = Slot {
+    way: Way::Source,
+    side: Side::Memory,
+    offset: 0,
+    word: true,
+};
+
+const FROM_MEMORY_WORD_2: Slot = Slot {
+    way: Way::Source,
+    side: Side::Memory,
+    offset: 2,
+    word: true,
+};
+
+const FROM_DEVICE: Slot = Slot {
+    way: Way::Source,
+    side: Side::Device,
+    offset: 0,
+    word: false,
+};
+
+const FROM_DEVICE_2: Slot = Slot {
+    way: Way::Source,
+    side: Side::Device,
+    offset: 2,
+    word: false,
+};
+
+const FROM_DEVICE_4: Slot = Slot {
+    way: Way::Source,
+    side: Side::Device,
+    offset: 4,
+    word: false,
+};
+
+const FROM_DEVICE_6: Slot = Slot {
+    way: Way::Source,
+    side: Side::Device,
+    offset: 6,
+    word: false,
+};
+
+const FROM_DEVICE_WORD: Slot = Slot {
+    way: Way::Source,
+    side: Side::Device,
+    offset: 0,
+    word: true,
+};
+
+const FROM_DEVICE_WORD_2: Slot = Slot {
+    way: Way::Source,
+    side: Side::Device,
+    offset: 2,
+    word: true,
+};
+
+const TO_MEMORY: Slot = Slot {
+    way: Way::Destination,
+    side: Side::Memory,
+    offset: 0,
+    word: false,
+};
+
+const TO_MEMORY_WORD: Slot = Slot {
+    way: Way::Destination,
+    side: Side::Memory,
+    offset: 0,
+    word: true,
+};
+
+const TO_MEMORY_WORD_2: Slot = Slot {
+    way: Way::Destination,
+    side: Side::Memory,
+    offset: 2,
+    word: true,
+};
+
+const TO_DEVICE: Slot = Slot {
+    way: Way::Destination,
+    side: Side::Device,
+    offset: 0,
+    word: false,
+};
+
+const TO_DEVICE_2: Slot = Slot {
+    way: Way::Destination,
+    side: Side::Device,
+    offset: 2,
+    word: false,
+};
+
+const TO_DEVICE_4: Slot = Slot {
+    way: Way::Destination,
+    side: Side::Device,
+    offset: 4,
+    word: false,
+};
+
+const TO_DEVICE_6: Slot = Slot {
+    way: Way::Destination,
+    side: Side::Device,
+    offset: 6,
+    word: false,
+};
+
+const TO_DEVICE_WORD: Slot = Slot {
+    way: Way::Destination,
+    side: Side::Device,
+    offset: 0,
+    word: true,
+};
+
+const TO_DEVICE_WORD_2: Slot = Slot {
+    way: Way::Destination,
+    side: Side::Device,
+    offset: 2,
+    word: true,
+};
+
+const THROUGH_MEMORY: Slot = Slot {
+    way: Way::Through,
+    side: Side::Memory,
+    offset: 0,
+    word: false,
+};
+
+const THROUGH_MEMORY_WORD: Slot = Slot {
+    way: Way::Through,
+    side: Side::Memory,
+    offset: 0,
+    word: true,
+};
+
+const THROUGH_MEMORY_WORD_2: Slot = Slot {
+    way: Way::Through,
+    side: Side::Memory,
+    offset: 2,
+    word: true,
+};
+
 // A 16-bit port: one cycle on each side for each portion.
 fn plan_wide(inward: bool, size: Size) -> &'static [Slot]
     ensures slots { λ r. ⌜ now r ≡ plan-wide inward size ⌝ }
     ensures few { λ r. ⌜ length (now r) ≤ 6 ⌝ }
 {
     match (inward, size) {
-        (false, Size::Byte) => &[
-            Slot {
-                way: Way::Source,
-                side: Side::Memory,
-                offset: 0,
-                word: false,
-            },
-            Slot {
-                way: Way::Destination,
-                side: Side::Device,
-                offset: 0,
-                word: false,
-            },
-        ],
-        (false, Size::Word) => &[
-            Slot {
-                way: Way::Source,
-                side: Side::Memory,
-                offset: 0,
-                word: true,
-            },
-            Slot {
-                way: Way::Destination,
-                side: Side::Device,
-                offset: 0,
-                word: true,
-            },
-        ],
+        (false, Size::Byte) => &[FROM_MEMORY, TO_DEVICE],
+        (false, Size::Word) => &[FROM_MEMORY_WORD, TO_DEVICE_WORD],
         (false, Size::Long) => &[
-            Slot {
-                way: Way::Source,
-                side: Side::Memory,
-                offset: 0,
-                word: true,
-            },
-            Slot {
-                way: Way::Destination,
-                side: Side::Device,
-                offset: 0,
-                word: true,
-            },
-            Slot {
-                way: Way::Source,
-                side: Side::Memory,
-                offset: 2,
-                word: true,
-            },
-            Slot {
-                way: Way::Destination,
-                side: Side::Device,
-                offset: 2,
-                word: true,
-            },
+            FROM_MEMORY_WORD,
+            TO_DEVICE_WORD,
+            FROM_MEMORY_WORD_2,
+            TO_DEVICE_WORD_2,
         ],
-        (true, Size::Byte) => &[
-            Slot {
-                way: Way::Source,
-                side: Side::Device,
-                offset: 0,
-                word: false,
-            },
-            Slot {
-                way: Way::Destination,
-                side: Side::Memory,
-                offset: 0,
-                word: false,
-            },
-        ],
-        (true, Size::Word) => &[
-            Slot {
-                way: Way::Source,
-                side: Side::Device,
-                offset: 0,
-                word: true,
-            },
-            Slot {
-                way: Way::Destination,
-                side: Side::Memory,
-                offset: 0,
-                word: true,
-            },
-        ],
+        (true, Size::Byte) => &[FROM_DEVICE, TO_MEMORY],
+        (true, Size::Word) => &[FROM_DEVICE_WORD, TO_MEMORY_WORD],
         (true, Size::Long) => &[
-            Slot {
-                way: Way::Source,
-                side: Side::Device,
-                offset: 0,
-                word: true,
-            },
-            Slot {
-                way: Way::Destination,
-                side: Side::Memory,
-                offset: 0,
-                word: true,
-            },
-            Slot {
-                way: Way::Source,
-                side: Side::Device,
-                offset: 2,
-                word: true,
-            },
-            Slot {
-                way: Way::Destination,
-                side: Side::Memory,
-                offset: 2,
-                word: true,
-            },
+            FROM_DEVICE_WORD,
+            TO_MEMORY_WORD,
+            FROM_DEVICE_WORD_2,
+            TO_MEMORY_WORD_2,
         ],
     }
 }
@@ -155,149 +211,25 @@ fn plan_narrow(inward: bool, size: Size) -> &'static [Slot]
     ensures few { λ r. ⌜ length (now r) ≤ 6 ⌝ }
 {
     match (inward, size) {
-        (false, Size::Byte) => &[
-            Slot {
-                way: Way::Source,
-                side: Side::Memory,
-                offset: 0,
-                word: false,
-            },
-            Slot {
-                way: Way::Destination,
-                side: Side::Device,
-                offset: 0,
-                word: false,
-            },
-        ],
-        (false, Size::Word) => &[
-            Slot {
-                way: Way::Source,
-                side: Side::Memory,
-                offset: 0,
-                word: true,
-            },
-            Slot {
-                way: Way::Destination,
-                side: Side::Device,
-                offset: 0,
-                word: false,
-            },
-            Slot {
-                way: Way::Destination,
-                side: Side::Device,
-                offset: 2,
-                word: false,
-            },
-        ],
+        (false, Size::Byte) => &[FROM_MEMORY, TO_DEVICE],
+        (false, Size::Word) => &[FROM_MEMORY_WORD, TO_DEVICE, TO_DEVICE_2],
         (false, Size::Long) => &[
-            Slot {
-                way: Way::Source,
-                side: Side::Memory,
-                offset: 0,
-                word: true,
-            },
-            Slot {
-                way: Way::Destination,
-                side: Side::Device,
-                offset: 0,
-                word: false,
-            },
-            Slot {
-                way: Way::Destination,
-                side: Side::Device,
-                offset: 2,
-                word: false,
-            },
-            Slot {
-                way: Way::Source,
-                side: Side::Memory,
-                offset: 2,
-                word: true,
-            },
-            Slot {
-                way: Way::Destination,
-                side: Side::Device,
-                offset: 4,
-                word: false,
-            },
-            Slot {
-                way: Way::Destination,
-                side: Side::Device,
-                offset: 6,
-                word: false,
-            },
+            FROM_MEMORY_WORD,
+            TO_DEVICE,
+            TO_DEVICE_2,
+            FROM_MEMORY_WORD_2,
+            TO_DEVICE_4,
+            TO_DEVICE_6,
         ],
-        (true, Size::Byte) => &[
-            Slot {
-                way: Way::Source,
-                side: Side::Device,
-                offset: 0,
-                word: false,
-            },
-            Slot {
-                way: Way::Destination,
-                side: Side::Memory,
-                offset: 0,
-                word: false,
-            },
-        ],
-        (true, Size::Word) => &[
-            Slot {
-                way: Way::Source,
-                side: Side::Device,
-                offset: 0,
-                word: false,
-            },
-            Slot {
-                way: Way::Source,
-                side: Side::Device,
-                offset: 2,
-                word: false,
-            },
-            Slot {
-                way: Way::Destination,
-                side: Side::Memory,
-                offset: 0,
-                word: true,
-            },
-        ],
+        (true, Size::Byte) => &[FROM_DEVICE, TO_MEMORY],
+        (true, Size::Word) => &[FROM_DEVICE, FROM_DEVICE_2, TO_MEMORY_WORD],
         (true, Size::Long) => &[
-            Slot {
-                way: Way::Source,
-                side: Side::Device,
-                offset: 0,
-                word: false,
-            },
-            Slot {
-                way: Way::Source,
-                side: Side::Device,
-                offset: 2,
-                word: false,
-            },
-            Slot {
-                way: Way::Destination,
-                side: Side::Memory,
-                offset: 0,
-                word: true,
-            },
-            Slot {
-                way: Way::Source,
-                side: Side::Device,
-                offset: 4,
-                word: false,
-            },
-            Slot {
-                way: Way::Source,
-                side: Side::Device,
-                offset: 6,
-                word: false,
-            },
-            Slot {
-                way: Way::Destination,
-                side: Side::Memory,
-                offset: 2,
-                word: true,
-            },
+            FROM_DEVICE,
+            FROM_DEVICE_2,
+            TO_MEMORY_WORD,
+            FROM_DEVICE_4,
+            FROM_DEVICE_6,
+            TO_MEMORY_WORD_2,
         ],
     }
 }
@@ -308,32 +240,9 @@ fn plan_single(size: Size) -> &'static [Slot]
     ensures few { λ r. ⌜ length (now r) ≤ 6 ⌝ }
 {
     match size {
-        Size::Byte => &[Slot {
-            way: Way::Through,
-            side: Side::Memory,
-            offset: 0,
-            word: false,
-        }],
-        Size::Word => &[Slot {
-            way: Way::Through,
-            side: Side::Memory,
-            offset: 0,
-            word: true,
-        }],
-        Size::Long => &[
-            Slot {
-                way: Way::Through,
-                side: Side::Memory,
-                offset: 0,
-                word: true,
-            },
-            Slot {
-                way: Way::Through,
-                side: Side::Memory,
-                offset: 2,
-                word: true,
-            },
-        ],
+        Size::Byte => &[THROUGH_MEMORY],
+        Size::Word => &[THROUGH_MEMORY_WORD],
+        Size::Long => &[THROUGH_MEMORY_WORD, THROUGH_MEMORY_WORD_2],
     }
 }
 
