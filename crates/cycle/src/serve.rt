@@ -162,15 +162,7 @@ fn carry<M: Memory, D: DeviceBank>(
         devices,
     );
     let held = slot.held_after(bytes, progress.held);
-    advance(
-        channel,
-        last,
-        Progress {
-            cycles: progress.cycles,
-            held,
-            done: progress.done,
-        },
-    );
+    advance(channel, last, Progress { held, ..progress });
     Outcome::Made(Record::Cycle {
         channel: number,
         kind: slot.kind(config),
@@ -206,11 +198,7 @@ fn serve_slot<M: Memory, D: DeviceBank>(
     carry(
         slot,
         last,
-        Progress {
-            cycles: progress.cycles,
-            held: progress.held,
-            done,
-        },
+        Progress { done, ..progress },
         number,
         channel,
         memory,
