@@ -4,7 +4,7 @@ ghost use mathlib.Core.Path.{_≡_};
 ghost use Rattle.dmac.specs.Controller.{new-controller, controller-reset};
 
 // `last` is the channel that was served last, and `bus` stands while the controller holds the bus.
-#[derive(Clone, Copy)]
+#[derive(Drop)]
 pub struct Dmac {
     pub(crate) channels: [Channel; 4],
     pub(crate) gcr: u8,
