@@ -7,8 +7,8 @@ ghost use Rattle.devices.specs.Bank.{pair};
 #[derive(Drop)]
 pub struct Pair<A: DeviceBank, B: DeviceBank> {
     limit: u8,
-    first: A,
-    second: B,
+    pub first: A,
+    pub second: B,
 }
 
 impl<A: DeviceBank, B: DeviceBank> Pair<A, B> {

@@ -13,7 +13,7 @@ ghost use Rattle.devices.specs.Bank.{printer, is-served};
 #[derive(Drop)]
 pub struct Printer<'a> {
     channel: u8,
-    page: Queue<'a, u8>,
+    pub page: Queue<'a, u8>,
 }
 
 impl<'a> Printer<'a> {

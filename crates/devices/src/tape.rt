@@ -8,7 +8,7 @@ ghost use Rattle.devices.specs.Bank.{tape, is-served};
 #[derive(Drop)]
 pub struct Tape<'a> {
     channel: u8,
-    rest: &'a [u8],
+    pub rest: &'a [u8],
 }
 
 impl<'a> Tape<'a> {
