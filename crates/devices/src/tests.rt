@@ -48,5 +48,7 @@ fn a_pair_divides_the_channels() -> Result<(), Fail> {
     check_eq(two.give(3), None)?;
     let mut all = Pair::new(4, Tape::new(3, b"a"), NoDevices);
     check_eq(all.give(3), Some(b'a'))?;
-    check_eq(all.give(4), None)
+    check_eq(all.give(4), None)?;
+    let mut above = Pair::new(9, NoDevices, Tape::new(3, b"a"));
+    check_eq(above.give(3), None)
 }
