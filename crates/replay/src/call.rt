@@ -5,6 +5,7 @@ use crate::fields::decimal;
 use crate::fields::decimal_byte;
 use crate::fields::decimal_word;
 use crate::fields::flag;
+use crate::fields::function_code;
 use crate::fields::hex;
 use crate::fields::hex_byte;
 use crate::fields::hex_of;
@@ -69,7 +70,7 @@ fn step(fields: &mut Fields<'_>) -> Option<Call> {
 }
 
 fn peek(fields: &mut Fields<'_>) -> Option<Question> {
-    let code = decimal_byte(fields.next()?)?;
+    let code = function_code(fields.next()?)?;
     let address = hex_of(fields.next()?, 6)?;
     let count = hex(fields.next()?)?;
     Some(Question::Peek {

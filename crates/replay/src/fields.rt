@@ -116,16 +116,17 @@ pub fn hex_word(field: &[u8]) -> Option<u16> {
     u16::try_from(hex_of(field, 4)?).ok()
 }
 
-// A decimal number with no leading zeros.
+// A decimal number of at most nine digits, with no leading zeros.
 pub fn decimal(field: &[u8]) -> Option<u32> {
-    if field.len() > 1 && field[0] == b'0' {
+    if field.len() > 9 || (field.len() > 1 && field[0] == b'0') {
         return None;
     }
     number(field, 10)
 }
 
+// A decimal number that a call takes as a byte: one that is too large is taken as 255, which every such call refuses.
 pub fn decimal_byte(field: &[u8]) -> Option<u8> {
-    u8::try_from(decimal(field)?).ok()
+    Some(u8::try_from(decimal(field)?).unwrap_or(255))
 }
 
 pub fn decimal_word(field: &[u8]) -> Option<u16> {
@@ -145,6 +146,12 @@ pub fn flag(field: &[u8]) -> Option<bool> {
 pub fn channel(field: &[u8]) -> Option<u8> {
     let channel = decimal_byte(field)?;
     if channel < 4 { Some(channel) } else { None }
+}
+
+// A function code.
+pub fn function_code(field: &[u8]) -> Option<u8> {
+    let code = decimal_byte(field)?;
+    if code < 8 { Some(code) } else { None }
 }
 
 // Whether a field is pairs of digits.

@@ -128,6 +128,7 @@ fn lent<'a>(channel: u8, medium: &'a mut Medium) -> Single<'a> {
 fn play_with<M: Memory + Drop>(
     rt: &LibcRuntime,
     memory: M,
+    split: bool,
     media: &mut Media,
     places: usize,
     lines: &[u8],
@@ -138,6 +139,7 @@ fn play_with<M: Memory + Drop>(
     let mut player = Player {
         dmac: Dmac::new(),
         memory,
+        split,
         devices: Pair::new(
             2,
             Pair::new(1, lent(0, &mut media.first), lent(1, &mut media.second)),
@@ -162,7 +164,7 @@ fn play_over(
         return Err(TOO_LARGE.into());
     };
     match &mut contents.lower {
-        None => play_with(rt, memory, media, places, lines, out),
+        None => play_with(rt, memory, false, media, places, lines, out),
         Some(bytes) => {
             let Ok(lower) = Flat::new(bytes) else {
                 return Err(TOO_LARGE.into());
@@ -171,7 +173,7 @@ fn play_over(
                 upper: memory,
                 lower,
             };
-            play_with(rt, split, media, places, lines, out)
+            play_with(rt, split, true, media, places, lines, out)
         }
     }
 }

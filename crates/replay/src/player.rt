@@ -60,11 +60,12 @@ const SHOWN: [(u8, u8); 17] = [
 // No address is at or above this one.
 const PLACES: u32 = 0x1000000;
 
-// `moved` has a place for each record that the trace can hold.
+// `split` says whether the memory has two parts; `moved` has a place for each record that the trace can hold.
 #[derive(Drop)]
 pub struct Player<'a, M: Memory> {
     pub dmac: Dmac,
     pub memory: M,
+    pub split: bool,
     pub devices: Four<'a>,
     pub trace: Queue<'a, Record>,
     pub moved: Vec<Record>,
@@ -105,7 +106,9 @@ impl<'a, M: Memory> Player<'a, M> {
                 address,
                 count,
             } => self.peek(code, address, count, out),
-            Question::Bytes { upper } => self.all_bytes(if upper { 5 } else { 1 }, out),
+            Question::Bytes { upper: true } if !self.split => write!(out, "bad line"),
+            Question::Bytes { upper: true } => self.all_bytes(5, out),
+            Question::Bytes { upper: false } => self.all_bytes(1, out),
             Question::Device { channel } => self.device(channel, out),
         }
     }
@@ -160,18 +163,12 @@ impl<'a, M: Memory> Player<'a, M> {
         Ok(())
     }
 
-    // All bytes that a function code names; a hyphen where there are none.
+    // All bytes that a function code names.
     fn all_bytes(&self, code: u8, out: &mut Vec<u8>) -> io::Result<()> {
         for address in 0..PLACES {
             match self.memory.read(code, address) {
                 Some(byte) => put_pair(out, byte)?,
-                None => {
-                    return if address == 0 {
-                        write!(out, "-")
-                    } else {
-                        Ok(())
-                    };
-                }
+                None => return Ok(()),
             }
         }
         Ok(())
