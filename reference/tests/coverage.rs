@@ -14,6 +14,7 @@ fn every_rule_is_used() {
     for seed in 1..=48 {
         total.add(&cover(&make_sequence(seed, 5_000, ALL)));
     }
+    print!("{}", total.table());
     assert_eq!(total.unused(), Vec::<&str>::new());
 }
 

@@ -1,6 +1,7 @@
 // Replay: plays a recorded sequence of calls of the controller, and prints what each answers.
 //
 //     replay < sequence
+//     replay a.in - b.in        each with a controller of its own, one after the other; - is standard input
 //
 // A sequence is lines, one call to a line. Each line is printed, then ` = ` and the answer:
 //
@@ -44,7 +45,9 @@ use script::lines::after_line;
 use script::lines::first_line;
 use script::text::put_text;
 use std::alloc::AllocError;
+use std::env;
 use std::error::AnyError;
+use std::fs::File;
 use std::io::Read;
 use std::io::Write;
 
@@ -178,13 +181,11 @@ fn play_over(
     }
 }
 
-// Plays the sequence on standard input.
-fn replay(rt: &LibcRuntime) -> Result<(), AnyError> {
-    let mut input = Vec::new(rt.alloc());
-    rt.stdin().read_to_end(&mut input)?;
+// Plays a sequence.
+fn replay(rt: &LibcRuntime, input: &[u8]) -> Result<(), AnyError> {
     let mut out = Vec::new(rt.alloc());
     let mut setup = Setup::new();
-    let rest = set_up(rt, &input, &mut setup, &mut out)?;
+    let rest = set_up(rt, input, &mut setup, &mut out)?;
     if let (Some(mut contents), Some(mut media), Some(places)) = (
         setup.memory,
         setup.media,
@@ -196,6 +197,29 @@ fn replay(rt: &LibcRuntime) -> Result<(), AnyError> {
     Ok(())
 }
 
+// A sequence, from a file or, for -, from standard input.
+fn sequence_of(rt: &LibcRuntime, name: &str) -> Result<Vec<u8>, AnyError> {
+    let mut input = Vec::new(rt.alloc());
+    if name == "-" {
+        rt.stdin().read_to_end(&mut input)?;
+    } else {
+        File::open(rt, name)?.read_to_end(&mut input)?;
+    }
+    Ok(input)
+}
+
+fn replay_all(rt: &LibcRuntime) -> Result<(), AnyError> {
+    let mut named = false;
+    for name in env::args(rt)?.skip(1) {
+        named = true;
+        replay(rt, &sequence_of(rt, name.as_str())?)?;
+    }
+    if !named {
+        replay(rt, &sequence_of(rt, "-")?)?;
+    }
+    Ok(())
+}
+
 fn main(rt: LibcRuntime) -> Result<(), AnyError> {
-    rt.report(replay(&rt))
+    rt.report(replay_all(&rt))
 }
