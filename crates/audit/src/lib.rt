@@ -8,6 +8,8 @@
 // here goes on lawfully: what was named is delivered, in order and byte for byte, and nothing else is touched. `play`
 // makes a whole log of calls on a new controller, and promises that this history is lawful. The law is specs/Law.antt,
 // on one page; specs/Book.antt has the book of named and delivered operands that it speaks of.
+#![tactic(auto)]
+
 pub mod call;
 pub mod examples;
 pub mod log;

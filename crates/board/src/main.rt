@@ -2,6 +2,8 @@
 //
 //     board                     a script from standard input
 //     board a.script - b.script each on a board of its own, one after the other; - is standard input
+#![tactic(auto)]
+
 use anyhow::anyhow;
 use bus::flat::Flat;
 use monitor::monitor::Monitor;

@@ -7,6 +7,8 @@
 //
 // A memory is any type with the trait `Memory`; what it means is one record of specs/Memory.antt, and code over a
 // memory is proved from that meaning alone. `Flat` is one over given bytes, `Split` joins two.
+#![tactic(auto)]
+
 pub mod flat;
 pub mod memory;
 pub mod split;

@@ -8,6 +8,8 @@
 //
 // specs/ has the meaning of each call: Decode (which register stands where), State (the channel), Start (the
 // checks of a start and what it leaves), Write and Read (register access).
+#![tactic(auto)]
+
 pub mod access;
 pub mod decode;
 pub mod operation;

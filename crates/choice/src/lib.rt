@@ -6,6 +6,8 @@
 //     choose([false; 4], [0; 4], 0)                          None: no channel counts
 //
 // A priority has two bits and a channel's number too: of larger numbers the other bits mean nothing.
+#![tactic(auto)]
+
 #[cfg(test)]
 mod tests;
 

@@ -9,6 +9,8 @@
 //
 // specs/Plan.antt is the table of an operand's cycles; specs/Carry.antt what a cycle moves, from where to where;
 // specs/Serve.antt what is then left of the channel.
+#![tactic(auto)]
+
 pub mod carry;
 pub mod held;
 pub mod plan;

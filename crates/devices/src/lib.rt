@@ -8,6 +8,8 @@
 //
 // A bank is any type with the trait `DeviceBank`; what it means is one record of specs/Bank.antt, and code over a
 // bank is proved from that meaning alone. docs/DEVICES.md is for whoever writes another one.
+#![tactic(auto)]
+
 pub mod bank;
 pub mod none;
 pub mod pair;

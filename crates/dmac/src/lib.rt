@@ -7,6 +7,8 @@
 //
 // Every call is refused, and then changes nothing, or does exactly what specs/ says: Controller (the state), Access
 // (register reads and writes), Examples (a table of worked examples, proved).
+#![tactic(auto)]
+
 pub mod access;
 pub mod answer;
 pub mod controller;

@@ -9,6 +9,8 @@
 //     queue.get(0)                                        // Some(8), the oldest now
 //
 // The slots are used as a ring, so nothing is ever shifted. The elements are of any plain (`Copy`) type.
+#![tactic(auto)]
+
 pub mod ring;
 #[cfg(test)]
 mod tests;

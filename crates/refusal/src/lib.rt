@@ -8,6 +8,8 @@
 //
 // The number of each case is what a script prints after its E. If several cases fit a call, the one with
 // the smallest number is answered.
+#![tactic(auto)]
+
 pub mod kinds;
 
 ghost use Rattle.std.specs.Prelude.{◌≡◌};

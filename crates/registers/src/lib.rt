@@ -7,6 +7,8 @@
 //     status.clear(0x90);                  // both are 0 again
 //
 // specs/ has the same fields as definitions; every function here promises to be its definition.
+#![tactic(auto)]
+
 pub mod config;
 pub mod control;
 pub mod fault;

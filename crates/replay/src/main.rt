@@ -10,6 +10,8 @@
 //     wb 02 00 = refused 1
 //
 // The first lines set up the memory, the devices and the trace. A line that is no call is answered `bad line`.
+#![tactic(auto)]
+
 mod device;
 mod fields;
 mod line;

@@ -10,6 +10,8 @@
 //
 // `lines` cuts a script into lines, `parse` says which command a line is, and `text` has the bytes of a
 // fill and writes the answers. Nothing here acts on a command.
+#![tactic(auto)]
+
 pub mod command;
 mod digits;
 pub mod lines;
