@@ -11,8 +11,8 @@ next s i h = at_drop_more all_digits s i 0 h
 done : (s : List ℕ) (i : ℕ) → length s ≤ i → all_digits (drop i s) ≡ true
 done s i h = at_drop_all all_digits s i h
 
-pub returns-then-is-none : goal.returns-then-is-none
-returns-then-is-none c = search (rules, next)
+pub returns-then-is_none : goal.returns-then-is_none
+returns-then-is_none c = search (rules, next)
 
 pub loop-code-preserved : goal.loop-code-preserved
 loop-code-preserved c = search (rules, next)

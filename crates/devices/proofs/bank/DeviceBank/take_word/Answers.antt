@@ -3,5 +3,5 @@ use Rattle.std.proofs.Common.{rules}
 use Rattle.devices.proofs.Laws.{taken_twice}
 use Rattle.devices.proofs.bank.DeviceBank.take_word.Goals as goal
 
-pub returns-then-can-take : goal.returns-then-can-take
-returns-then-can-take g c = search (rules, taken_twice)
+pub returns-then-can_take : goal.returns-then-can_take
+returns-then-can_take g c = search (rules, taken_twice)
