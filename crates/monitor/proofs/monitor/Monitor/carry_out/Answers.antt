@@ -10,7 +10,7 @@ loop-rest-smaller g c = search (rules, rest_shorter)
 pub loop-rest-preserved : goal.loop-rest-preserved
 loop-rest-preserved g c =
     let h : 0 < length c.loop-rest.rest.now = search rules in
-    script_turn c.loop-rest.rest.now c.first-line-line.result.now c.after-line-rest.result.now _ _ _ h c.first-line-line.ensures c.after-line-rest.ensures c.in-ok-line.ensures c.loop-rest.invariant
+    script_turn c.loop-rest.rest.now c.first_line-line.result.now c.after_line-rest.result.now _ _ _ h c.first_line-line.ensures c.after_line-rest.ensures c.in_ok-line.ensures c.loop-rest.invariant
 
 pub returns : goal.returns
 returns g c = search (rules, lines_end)

@@ -6,10 +6,10 @@ use Rattle.monitor.proofs.monitor.Monitor.run.Goals as goal
 
 pub returns : goal.returns
 returns g c = record {
-  printed = c.carry-out.ensures;
-  history = made_more c.carry-out.result _ _
+  printed = c.carry_out.ensures;
+  history = made_more c.carry_out.result _ _
       (λ u e. script_goes c.args.script.now
       (session_of c.args.self.now.dmac (g.M.Memory.means c.args.self.now.memory) (vec_items c.args.out.now))
-      (session_of c.carry-out.new.self.dmac (g.M.Memory.means c.carry-out.new.self.memory) (vec_items c.carry-out.new.out)) e)
-      c.carry-out.ensures;
+      (session_of c.carry_out.new.self.dmac (g.M.Memory.means c.carry_out.new.self.memory) (vec_items c.carry_out.new.out)) e)
+      c.carry_out.ensures;
 }
