@@ -14,7 +14,9 @@ use Rattle.cycle.specs.Serve.{slot_data}
 use Rattle.dmac.specs.Controller.{channel_at}
 use Rattle.dmac.specs.Choice.{chosen}
 use Rattle.dmac.specs.Step.{Machine, Stepped, machine_of, step_chosen, step_on}
-use Rattle.dmac.specs.Run.{plain_step}
+use Rattle.dmac.specs.declared.run.Ran.{Ran}
+use Rattle.dmac.specs.Run.{plain_step, run_taken}
+use Rattle.cycle.specs.declared.record.Record.{Record}
 use Rattle.audit.specs.declared.call.Call.{Call}
 use Rattle.audit.specs.declared.call.Call.TheVariants.{ReadByte, WriteByte, Store, Run}
 use Rattle.audit.specs.Calls.{performed}
@@ -27,7 +29,7 @@ use Rattle.script.specs.Digits.{data_bytes}
 use Rattle.script.specs.Lines.{lines}
 use Rattle.script.specs.Text.{newline, ok_text}
 use Rattle.monitor.specs.Area.{is_past_the_end, takes_all, filled, area_text}
-use Rattle.monitor.specs.Monitor.{Session, refused, command_done, line_done, lines_done, script_done}
+use Rattle.monitor.specs.Monitor.{Session, session_of, refused, run_shown, command_done, line_done, lines_done, script_done}
 use Rattle.monitor.specs.History.{machine_in, store_events, command_events, lines_events, script_events, ScriptGoesOn}
 
 -- A bank in which nothing waits and no place is free stays so.
@@ -80,6 +82,11 @@ fill_passed : (a : ℕ) (bs : List ℕ) (p : Past) → (passed (store_events a b
 fill_passed a [] p = refl
 fill_passed a (b ∷ bs) p = fill_passed (a + 1) bs (called (Store 5 a b) 0 p)
 
+-- What a run prints leaves the controller and the memory.
+shown_machine : (a : Result Ran Refusal) (t : List Record) (s : Session) → machine_in (run_shown a t s) ≡ machine_in s
+shown_machine (Ok told) t s = refl
+shown_machine (Err r) t s = refl
+
 -- A command.
 command_passed : (c : Result Said Refusal) (s : Session) (p : Past) → p.machine ≡ machine_in s → (passed (command_events c s) p).machine ≡ machine_in (command_done c s)
 command_passed (Ok (write o v)) s p e = ap (λ (y : Machine). (performed (WriteByte o v) 0 y []).machine) e
@@ -102,7 +109,8 @@ command_passed (Ok (show a n)) s p e = shown
 command_passed (Ok (run n)) s p e =
     let f : (run_made n 128 p).machine ≡ (performed (Run n) 128 (machine_in s) []).machine = sym (called_machine (Run n) 128 [] p) ∙ ap (λ (y : Machine). (performed (Run n) 128 y []).machine) e in
     let g : (performed (Run n) 128 (machine_in s) []).machine.bank ≡ nothing = ap (λ (y : Machine). y.bank) (sym f) ∙ run_nothing n 128 p (ap (λ (y : Machine). y.bank) e) in
-    f ∙ as_session (performed (Run n) 128 (machine_in s) []).machine g
+    let c = run_taken n 128 (machine_in s) [] in
+    f ∙ as_session (performed (Run n) 128 (machine_in s) []).machine g ∙ sym (shown_machine c.answer c.trace (session_of c.machine.dmac c.machine.memory s.text))
 command_passed (Err r) s p e = e
 
 -- A history that goes on with more events.

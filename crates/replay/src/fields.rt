@@ -170,7 +170,7 @@ fn is_pairs(field: &[u8]) -> bool {
 
 // The bytes that pairs of digits spell; a hyphen stands for none.
 pub fn bytes(heap: Global, field: &[u8]) -> Result<Option<Vec<u8>>, AllocError> {
-    if field == b"-" {
+    if field == b"-".as_slice() {
         return Ok(Some(Vec::new(heap)));
     }
     if !is_pairs(field) {

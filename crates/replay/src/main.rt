@@ -23,6 +23,7 @@ use crate::device::Device;
 use crate::line::parse;
 use crate::player::{Player, Single, Two};
 use crate::setup::{Contents, Media, Medium, Setup};
+use anyhow::anyhow;
 use bus::flat::Flat;
 use bus::memory::Memory;
 use bus::split::Split;
@@ -182,13 +183,13 @@ fn play_over(
     out: &mut Vec<u8>,
 ) -> anyhow::Result<()> {
     let Ok(memory) = Flat::new(&mut contents.bytes) else {
-        return Err(TOO_LARGE.into());
+        return Err(anyhow!(TOO_LARGE));
     };
     match &mut contents.lower {
         None => play_with(rt, memory, false, media, places, lines, out),
         Some(bytes) => {
             let Ok(lower) = Flat::new(bytes) else {
-                return Err(TOO_LARGE.into());
+                return Err(anyhow!(TOO_LARGE));
             };
             let split = Split {
                 upper: memory,

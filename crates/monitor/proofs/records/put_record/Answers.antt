@@ -2,5 +2,5 @@
 use Rattle.std.proofs.Common.{append_assoc, rules}
 use Rattle.monitor.proofs.records.put_record.Goals as goal
 
-pub returns-in_ok-put_head : goal.returns-in_ok-put_head
-returns-in_ok-put_head c = search (rules, append_assoc)
+pub returns-in_ok-put_head-in-Error : goal.returns-in_ok-put_head-in-Error
+returns-in_ok-put_head-in-Error c = search (rules, append_assoc)
