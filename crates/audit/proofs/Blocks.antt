@@ -1,10 +1,9 @@
 -- Deliveries and block loads keep the invariant.
-use Rattle.std.proofs.Common.{◌≡◌, ℕ, zero, suc, ◌+◌, ◌-◌, ◌<◌, ◌≤◌, Bool, true, false, cond, not, ◌&&◌, ◌||◌, eqb, List, [], ◌∷◌, ◌++◌, length, drop, sym, refl, ap, ◌∙◌, subst, append_assoc, append-nil, arith, length-append}
+use Rattle.std.proofs.Common.{◌≡◌, ℕ, zero, suc, ◌<◌, Bool, true, false, cond, not, ◌&&◌, eqb, List, [], ◌++◌, length, sym, refl, ap, ◌∙◌, subst, append_assoc, append-nil, arith}
 use lib.Dec.{eqb-suc-zero}
-use Rattle.registers.specs.Config.{is_single, is_inward, is_port16, is_chained, is_misplaced, chain_of, next_mar, next_dar}
+use Rattle.registers.specs.Config.{is_single, is_port16, is_chained, is_misplaced, chain_of}
 use Rattle.registers.specs.Control.{is_continuing}
-use Rattle.registers.specs.Status.{is_active, block_done}
-use Rattle.registers.specs.declared.fault.Fault.{Fault}
+use Rattle.registers.specs.Status.{is_active}
 use Rattle.registers.specs.declared.fault.Fault.TheVariants.{MemoryAddress, MemoryCount, BaseCount}
 use Rattle.registers.specs.declared.groups.Config.{Config}
 use Rattle.registers.specs.declared.groups.Counters.{Counters}
@@ -13,18 +12,17 @@ use Rattle.registers.specs.declared.groups.Registers.{Registers}
 use Rattle.registers.specs.declared.groups.Chain.{Chain}
 use Rattle.registers.specs.declared.groups.Chain.TheVariants.{Plain, Array, Linked}
 use Rattle.channel.specs.declared.state.Channel.{Channel}
-use Rattle.channel.specs.declared.state.Phase.{Phase}
-use Rattle.channel.specs.declared.state.Phase.TheVariants.{Idle, Fetching, Inside}
+use Rattle.channel.specs.declared.state.Phase.TheVariants.{Idle, Fetching}
 use Rattle.channel.specs.declared.state.Words.TheVariants.{NoWord}
 use Rattle.channel.specs.State.{with_phase, with_counters, channel_failed}
-use Rattle.channel.specs.Operation.{channel_completed, channel_ended, base_loaded, block_continued, chain_continued, block_ended, operand_settled, table_moved, entry_set, entry_loaded}
-use Rattle.audit.specs.Operand.{Operand, operand, operands, dar_after}
+use Rattle.channel.specs.Operation.{channel_completed, channel_ended, base_loaded, block_continued, chain_continued, block_ended, table_moved, entry_set, entry_loaded}
+use Rattle.audit.specs.Operand.{Operand, operands, dar_after}
 use Rattle.audit.specs.Book.{Book, Gathered, nothing_gathered, block_named, block_continued as block_noted, words_of_entry, with_entry}
 use Rattle.audit.specs.Law.{EachOf, Faithful}
 use Rattle.audit.proofs.Basics.{no}
 use Rattle.audit.proofs.Status.{failed_inactive, completed_inactive, ended_inactive, block_done_active}
 use Rattle.audit.proofs.Plan.{runs_planned}
-use Rattle.audit.proofs.Inv.{Inv, InvX, Active, Operating, Reading, Lacks, inv_active, inv_stop, lacks_active}
+use Rattle.audit.proofs.Inv.{Inv, InvX, Operating, Reading, inv_active, inv_stop, lacks_active}
 
 -- Between operands, with nothing gathered.
 pub record Between (c : Config) (n : Counters) (t : Table) (b : Book) : Type 0 where

@@ -1,34 +1,30 @@
 -- Every call keeps the invariant of every channel.
-use Rattle.std.proofs.Common.{◌≡◌, ℕ, zero, suc, ◌+◌, ◌/◌, ◌%◌, ◌<◌, Bool, true, false, cond, not, ◌&&◌, ◌||◌, eqb, ltb, leb, List, [], ◌∷◌, ◌++◌, length, get_or, set, Some, None, Ok, Err, Option, Result, sym, refl, ap, ◌∙◌, subst, arith, length-set}
+use Rattle.std.proofs.Common.{◌≡◌, ℕ, zero, suc, ◌+◌, ◌/◌, ◌%◌, ◌<◌, Bool, true, false, cond, ◌&&◌, eqb, ltb, List, [], ◌∷◌, length, get_or, set, Some, None, Err, Option, sym, refl, ap, ◌∙◌, subst, arith, length-set}
 use lib.Bits.{bit_and}
 use Rattle.refusal.specs.declared.kinds.Refusal.{Refusal}
-use Rattle.refusal.specs.declared.kinds.Refusal.TheVariants.{NoRegister, OddWord, StartByWord, NoChannel, NoPlace, NoException}
+use Rattle.refusal.specs.declared.kinds.Refusal.TheVariants.{NoRegister, OddWord, StartByWord, NoChannel, NoException}
 use Rattle.registers.specs.Bits.{any, odd}
-use Rattle.registers.specs.Checks.{Check, check, first_failing}
+use Rattle.registers.specs.Checks.{check}
 use Rattle.registers.specs.Config.{is_chained}
 use Rattle.registers.specs.Status.{is_active}
 use Rattle.registers.specs.declared.groups.Registers.{Registers}
-use Rattle.bus.specs.Memory.{MemoryMeaning, byte_set}
-use Rattle.bus.specs.Store.{stored, is_storable}
+use Rattle.bus.specs.Memory.{MemoryMeaning}
 use Rattle.devices.specs.Bank.{BankMeaning}
 use Rattle.channel.specs.declared.decode.Access.{Access}
-use Rattle.channel.specs.declared.decode.Access.TheVariants.{Nowhere, Barred, To, General}
+use Rattle.channel.specs.declared.decode.Access.TheVariants.{Nowhere, General}
 use Rattle.channel.specs.declared.state.Channel.{Channel}
 use Rattle.channel.specs.Decode.{register_at, barred_by}
 use Rattle.channel.specs.Requests.{line_set}
 use Rattle.channel.specs.State.{blank_channel}
 use Rattle.channel.specs.Write.{written}
-use Rattle.dmac.specs.declared.answer.Answer.{Answer}
 use Rattle.dmac.specs.declared.controller.Dmac.{Dmac}
 use Rattle.dmac.specs.Controller.{new_controller, channel_at}
-use Rattle.dmac.specs.Access.{Outcome, register_of, register_after, reach_of, reach_after, is_nowhere, is_general, is_control, is_no_word, starts_by_word, word_refusal, refused, accepted, taken_in, byte_written, word_taken_in, word_written_by, word_written}
-use Rattle.dmac.specs.Line.{line_changed}
+use Rattle.dmac.specs.Access.{register_of, register_after, reach_of, reach_after, is_nowhere, is_general, is_control, is_no_word, starts_by_word, word_refusal, refused, accepted, taken_in, word_taken_in, word_written_by}
 use Rattle.dmac.specs.Choice.{chosen}
-use Rattle.dmac.specs.Step.{Machine, machine_of, Called as StepCalled, called as step_ok, step_reset, step_chosen, is_exception}
-use Rattle.audit.specs.Calls.{Call, ReadByte, ReadWord, WriteByte, WriteWord, SetLine, Step, Store, Run, Called, done_reply, step_reply, with_dmac, byte_write_called, word_write_called, line_called, step_called, store_called}
+use Rattle.dmac.specs.Step.{Machine, called as step_ok, step_reset, step_chosen, is_exception}
+use Rattle.audit.specs.Calls.{Call, ReadByte, ReadWord, WriteByte, WriteWord, SetLine, Step, Store, Called, done_reply, step_reply, with_dmac, byte_write_called, word_write_called, line_called, step_called, store_called}
 use Rattle.audit.specs.Book.{Book, half_noted, is_done, step_noted, call_noted, settled_before, book_fed}
 use Rattle.audit.specs.History.{Past, beginning, registers_of, noted}
-use Rattle.audit.specs.Law.{EachOf}
 use Rattle.audit.proofs.Basics.{no, at_set_alone}
 use Rattle.audit.proofs.Inv.{InvX, inv_settled}
 use Rattle.audit.proofs.Writes.{passes}

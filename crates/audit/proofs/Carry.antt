@@ -1,16 +1,14 @@
 -- A carried-out cycle of an operand keeps the invariant.
-use Rattle.std.proofs.Common.{◌≡◌, ℕ, zero, suc, ◌+◌, ◌-◌, ◌<◌, ◌≤◌, Bool, true, false, cond, not, ◌&&◌, ◌||◌, eqb, List, [], ◌∷◌, ◌++◌, length, drop, sym, refl, ap, ◌∙◌, subst, ap₂, append_assoc, append-nil, add-one, arith, length-append}
+use Rattle.std.proofs.Common.{◌≡◌, ℕ, suc, ◌+◌, ◌-◌, Bool, true, false, cond, eqb, List, [], ◌∷◌, ◌++◌, length, drop, sym, refl, ap, ◌∙◌, subst, ap₂, append_assoc, append-nil, add-one, arith, length-append}
 use Rattle.std.proofs.lemmas.Bool.{eqb-true, eq-eqb, ne_eqb, and_parts}
-use Rattle.registers.specs.Config.{is_single, is_inward, is_port16, is_misplaced, size_of, bytes_of, chain_of, next_mar, next_dar}
-use Rattle.registers.specs.Control.{is_continuing}
+use Rattle.registers.specs.Config.{is_single, is_inward, is_misplaced, size_of, bytes_of, next_mar, next_dar}
 use Rattle.registers.specs.Status.{is_active}
 use Rattle.registers.specs.declared.groups.Config.{Config}
 use Rattle.registers.specs.declared.groups.Counters.{Counters}
 use Rattle.registers.specs.declared.groups.Registers.{Registers}
 use Rattle.channel.specs.declared.state.Channel.{Channel}
 use Rattle.channel.specs.declared.state.Held.{Held}
-use Rattle.channel.specs.declared.state.Phase.{Phase}
-use Rattle.channel.specs.declared.state.Phase.TheVariants.{Idle, Fetching, Inside}
+use Rattle.channel.specs.declared.state.Phase.TheVariants.{Inside}
 use Rattle.channel.specs.State.{with_phase}
 use Rattle.channel.specs.Operation.{counters_moved, operand_delivered}
 use Rattle.cycle.specs.declared.plan.Way.{Way}
@@ -19,21 +17,20 @@ use Rattle.cycle.specs.declared.plan.Side.{Side}
 use Rattle.cycle.specs.declared.plan.Side.TheVariants.{Memory, Device}
 use Rattle.cycle.specs.declared.plan.Slot.{Slot}
 use Rattle.cycle.specs.declared.record.Data.{Data}
-use Rattle.cycle.specs.declared.record.Kind.{Kind}
 use Rattle.cycle.specs.declared.record.Kind.TheVariants.{Read, Write}
 use Rattle.cycle.specs.Plan.{plan}
 use Rattle.cycle.specs.Held.{held_first}
 use Rattle.cycle.specs.Carry.{count_of, held_after, slot_code_by, slot_address_by, slot_code, slot_address}
 use Rattle.cycle.specs.Serve.{kind_by, begun_at, operand_moved}
-use Rattle.audit.specs.Operand.{Place, Move, Operand, paired, operand, operands, dar_after}
-use Rattle.audit.specs.Book.{Book, Gathered, with_gathered, bytes_told, gathered_more, operand_gathered, operand_added, delivery_noted, operand_noted, move_noted, cycle_noted, places_written}
-use Rattle.audit.specs.Law.{EachOf, Faithful}
+use Rattle.audit.specs.Operand.{Place, Move, Operand, paired, operand, operands}
+use Rattle.audit.specs.Book.{Book, Gathered, with_gathered, bytes_told, gathered_more, operand_gathered, operand_added, operand_noted, move_noted, cycle_noted, places_written}
+use Rattle.audit.specs.Law.{Faithful}
 use Rattle.audit.proofs.Basics.{no, each_more, length_join}
 use Rattle.audit.proofs.Plan.{code_at, address_at, slot_tos, all_froms, all_tos, fits, runs_on, runs, written_by, total_written, moves_planned, even_planned, runs_planned, total_planned}
-use Rattle.audit.proofs.Inv.{held_list, Inv, InvX, Active, Operating, lacks_active}
+use Rattle.audit.proofs.Inv.{held_list, InvX, Operating}
 use Rattle.audit.proofs.Even.{next_mar_even, next_dar_even}
 use Rattle.audit.proofs.Blocks.{Between, settled_inv}
-use Rattle.audit.proofs.Flow.{Slotted, slotted, Flow, flow_on, length_from, length_bare}
+use Rattle.audit.proofs.Flow.{slotted, flow_on, length_from, length_bare}
 
 -- The bytes that the cycles to come write are as many as the plan says.
 tos_length : (k : Config) (si i : Bool) (y : Way) (s : Side) (f a n : ℕ) → fits si i y s ≡ true → length (places_written si i k (kind_by y k) f a n) ≡ written_by y n

@@ -1,16 +1,15 @@
 -- The chosen channel is one of the four, and active.
-use Rattle.std.proofs.Common.{◌≡◌, ℕ, zero, suc, ◌<◌, Bool, true, false, cond, not, ◌&&◌, ◌||◌, List, [], ◌∷◌, get_or, Some, None, Option, sym, refl, ap, ◌∙◌, subst, arith}
+use Rattle.std.proofs.Common.{◌≡◌, ℕ, zero, suc, ◌<◌, Bool, true, false, cond, get_or, Some, None, Option, sym, refl, ap, ◌∙◌, subst, arith}
 use Rattle.std.proofs.lemmas.Bool.{and_parts}
 use Rattle.registers.specs.Status.{is_active}
 use Rattle.channel.specs.declared.state.Channel.{Channel}
-use Rattle.channel.specs.declared.state.Phase.{Phase}
 use Rattle.channel.specs.declared.state.Phase.TheVariants.{Idle}
 use Rattle.channel.specs.Requests.{is_inside, is_inside_phase, is_counting}
 use Rattle.choice.specs.Choice.{Chosen, or_else, choice}
 use Rattle.choice.proofs.Rule.{choice_chosen}
 use Rattle.dmac.specs.declared.controller.Dmac.{Dmac}
 use Rattle.dmac.specs.Controller.{channel_at}
-use Rattle.dmac.specs.Choice.{inside_of, counting_of, priorities_of, chosen}
+use Rattle.dmac.specs.Choice.{counting_of, priorities_of, chosen}
 use Rattle.audit.proofs.Basics.{no}
 
 -- One of the four channels, and active.

@@ -1,5 +1,5 @@
 -- What every step answers of a cycle is true.
-use Rattle.std.proofs.Common.{◌≡◌, ℕ, zero, suc, ◌+◌, ◌%◌, ◌<◌, Bool, true, false, cond, not, ◌&&◌, ◌||◌, eqb, leb, List, [], ◌∷◌, ◌++◌, length, drop, Some, None, Err, Option, sym, refl, ap, ◌∙◌, subst, append-nil, arith}
+use Rattle.std.proofs.Common.{◌≡◌, ℕ, ◌+◌, ◌<◌, Bool, true, false, cond, eqb, leb, List, ◌∷◌, ◌++◌, length, drop, Some, None, Err, Option, sym, refl, ap, ◌∙◌, subst, append-nil, arith}
 use Rattle.std.proofs.lemmas.Bool.{and_parts}
 use Rattle.refusal.specs.declared.kinds.Refusal.TheVariants.{NoException}
 use Rattle.registers.specs.Config.{is_single, is_inward}
@@ -7,39 +7,33 @@ use Rattle.registers.specs.Status.{is_active}
 use Rattle.registers.specs.declared.groups.Config.{Config}
 use Rattle.devices.specs.Bank.{BankMeaning, can_give, can_take, given, taken}
 use Rattle.channel.specs.declared.state.Channel.{Channel}
-use Rattle.channel.specs.declared.state.Held.{Held}
 use Rattle.cycle.specs.declared.carry.End.{End}
 use Rattle.cycle.specs.declared.carry.End.TheVariants.{InMemory, InDevice, InChannel}
 use Rattle.cycle.specs.declared.plan.Way.{Way}
 use Rattle.cycle.specs.declared.plan.Way.TheVariants.{Source, Destination, Through}
 use Rattle.cycle.specs.declared.plan.Side.{Side}
 use Rattle.cycle.specs.declared.plan.Side.TheVariants.{Memory, Device}
-use Rattle.cycle.specs.declared.plan.Slot.{Slot}
 use Rattle.cycle.specs.declared.record.Data.{Data}
-use Rattle.cycle.specs.declared.record.Kind.{Kind}
 use Rattle.cycle.specs.declared.record.Kind.TheVariants.{Read, Write}
 use Rattle.cycle.specs.Held.{data_bytes}
 use Rattle.cycle.specs.Plan.{plan}
-use Rattle.cycle.specs.Carry.{source_end, destination_end, count_of, is_source_ready, is_destination_ready, is_source_answered, is_destination_answered, bank_got, bank_put, slot_code, slot_address, slot_address_by}
-use Rattle.cycle.specs.Serve.{kind_by, slot_data, is_slot_ready, is_slot_answered, entry_address}
+use Rattle.cycle.specs.Carry.{source_end, destination_end, count_of, is_destination_ready, bank_got, bank_put, slot_code, slot_address, slot_address_by}
+use Rattle.cycle.specs.Serve.{kind_by, slot_data, entry_address}
 use Rattle.dmac.specs.declared.answer.Answer.{Answer}
 use Rattle.dmac.specs.declared.answer.Answer.TheVariants.{Reset, Idle, Halted, Retry, Waiting, Recorded}
 use Rattle.dmac.specs.Controller.{channel_at}
 use Rattle.dmac.specs.Choice.{chosen}
 use Rattle.dmac.specs.Step.{Machine, Stepped as StepDone, called as step_ok, step_made, step_chosen, step_on, step_reset, is_exception}
-use Rattle.audit.specs.Operand.{Place}
 use Rattle.audit.specs.Calls.{step_reply, step_called}
 use Rattle.audit.specs.Book.{Book, bytes_told, places_read, places_written}
-use Rattle.audit.specs.History.{registers_of}
 use Rattle.audit.specs.Truth.{Carried, CycleTrue, AnswerTrue, ReplyTrue, device_bytes}
-use Rattle.audit.proofs.Basics.{no}
 use Rattle.audit.proofs.Plan.{runs}
 use Rattle.audit.proofs.Inv.{held_list, InvX, Operating}
 use Rattle.audit.proofs.Flow.{Slotted, slotted, length_got}
 use Rattle.audit.proofs.Outcome.{Silent, Outcome, quiet, failed, moved, fetched, Moved, Fetched, cycle_record, slot_made, operating, entry_made, entry_record, step_is}
 use Rattle.audit.proofs.Chosen.{Serves}
-use Rattle.audit.proofs.Steps.{Kept, serves, Found, found}
-use Rattle.audit.proofs.Truth.{Gave, Has, gave_true, has_true, word_holds}
+use Rattle.audit.proofs.Steps.{Kept, serves, found}
+use Rattle.audit.proofs.Truth.{gave_true, has_true, word_holds}
 
 -- A cycle of an operand is told as a read or a write.
 kind_true : (y : Way) (k : Config) (n f a : ℕ) (vs : List ℕ) (old new : Machine)

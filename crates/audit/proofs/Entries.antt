@@ -1,23 +1,20 @@
 -- A word of a table entry keeps the invariant.
-use Rattle.std.proofs.Common.{◌≡◌, ℕ, zero, suc, ◌+◌, ◌*◌, ◌%◌, ◌<◌, ◌≤◌, Bool, true, false, cond, eqb, List, [], ◌∷◌, ◌++◌, length, get_or, sym, refl, ap, ◌∙◌, subst, append-nil, arith}
+use Rattle.std.proofs.Common.{◌≡◌, ℕ, ◌+◌, ◌*◌, ◌%◌, ◌<◌, true, eqb, List, [], ◌∷◌, ◌++◌, length, sym, refl, ap, ◌∙◌, subst, append-nil, arith}
 use Rattle.registers.specs.Config.{is_chained, chain_of}
 use Rattle.registers.specs.Status.{is_active}
 use Rattle.registers.specs.declared.groups.Chain.{Chain}
 use Rattle.registers.specs.declared.groups.Chain.TheVariants.{Plain, Array, Linked}
-use Rattle.registers.specs.declared.groups.Registers.{Registers}
 use Rattle.channel.specs.declared.state.Channel.{Channel}
-use Rattle.channel.specs.declared.state.Phase.{Phase}
-use Rattle.channel.specs.declared.state.Phase.TheVariants.{Idle, Fetching, Inside}
+use Rattle.channel.specs.declared.state.Phase.TheVariants.{Fetching}
 use Rattle.channel.specs.declared.state.Words.{Words}
 use Rattle.channel.specs.declared.state.Words.TheVariants.{NoWord, OneWord, TwoWords, ThreeWords, FourWords}
 use Rattle.channel.specs.State.{with_phase}
-use Rattle.channel.specs.Operation.{words_more, word_taken, words_read, long_of, table_moved}
+use Rattle.channel.specs.Operation.{word_taken, long_of, table_moved}
 use Rattle.cycle.specs.Serve.{entry_address}
-use Rattle.audit.specs.Operand.{Operand, sent_at}
-use Rattle.audit.specs.Book.{Book, with_gathered, words_gathered, words_of_entry, entry_noted, word_noted, word_told}
+use Rattle.audit.specs.Book.{Book, with_gathered, words_gathered, words_of_entry, entry_noted, word_noted}
 use Rattle.audit.specs.Law.{word_addresses}
 use Rattle.audit.proofs.Basics.{no}
-use Rattle.audit.proofs.Inv.{words_list, InvX, Active, Reading}
+use Rattle.audit.proofs.Inv.{words_list, InvX, Reading}
 use Rattle.audit.proofs.Blocks.{loaded_inv}
 
 -- Before a load everything named is delivered.

@@ -1,26 +1,24 @@
 -- An error is confined to its channel, which after a bus error stands at the operand or the entry.
-use Rattle.std.proofs.Common.{◌≡◌, ℕ, zero, suc, ◌+◌, ◌<◌, Bool, true, false, cond, eqb, ◌⊎◌, List, [], ◌∷◌, ◌++◌, length, get_or, set, Some, None, Err, Option, sym, refl, ap, ◌∙◌, subst, inl, inr, ⊎_elim, add-one, arith, length-append, get_or-set_other, get_or-set_same}
+use Rattle.std.proofs.Common.{◌≡◌, ℕ, zero, suc, ◌+◌, ◌<◌, Bool, true, false, cond, eqb, ◌⊎◌, length, Some, None, Err, Option, sym, refl, ap, ◌∙◌, subst, inl, inr, ⊎_elim, add-one, arith, length-append, get_or-set_other, get_or-set_same}
 use Rattle.refusal.specs.declared.kinds.Refusal.TheVariants.{NoException}
 use Rattle.registers.specs.Config.{next_mar, next_dar}
 use Rattle.registers.specs.Status.{is_active}
 use Rattle.registers.specs.declared.fault.Fault.{Fault}
 use Rattle.registers.specs.declared.fault.Fault.TheVariants.{BaseAddress, MemoryBus, DeviceBus, BaseBus}
-use Rattle.registers.specs.declared.groups.Registers.{Registers}
 use Rattle.channel.specs.declared.state.Channel.{Channel}
 use Rattle.channel.specs.State.{blank_channel, channel_failed}
-use Rattle.cycle.specs.declared.record.Record.TheVariants.{Cycle, Error}
+use Rattle.cycle.specs.declared.record.Record.TheVariants.{Error}
 use Rattle.dmac.specs.declared.answer.Answer.{Answer}
-use Rattle.dmac.specs.declared.answer.Answer.TheVariants.{Reset, Recorded}
+use Rattle.dmac.specs.declared.answer.Answer.TheVariants.{Recorded}
 use Rattle.dmac.specs.Controller.{channel_at}
 use Rattle.dmac.specs.Choice.{chosen}
 use Rattle.dmac.specs.Step.{Machine, Stepped as StepDone, called as step_ok, step_failed, step_chosen, step_on, step_reset, is_exception}
-use Rattle.audit.specs.Operand.{Operand, operand, operands, sent_at}
-use Rattle.audit.specs.Calls.{Reply, Step, Stepped, step_reply, step_called}
-use Rattle.audit.specs.Book.{Book, answer_noted, step_noted, settled_before, book_fed}
+use Rattle.audit.specs.Operand.{operand, operands}
+use Rattle.audit.specs.Calls.{Step, Stepped, step_reply, step_called}
+use Rattle.audit.specs.Book.{Book, answer_noted, settled_before, book_fed}
 use Rattle.audit.specs.History.{Past, registers_of, stepped, noted}
-use Rattle.audit.specs.Law.{Stands, StandsAtOperand, StandsAtEntry, TouchesOnly, word_addresses}
-use Rattle.audit.proofs.Basics.{no}
-use Rattle.audit.proofs.Inv.{held_list, words_list, InvX, Operating, Reading, reading_chained}
+use Rattle.audit.specs.Law.{Stands, TouchesOnly, word_addresses}
+use Rattle.audit.proofs.Inv.{words_list, InvX, reading_chained}
 use Rattle.audit.proofs.Outcome.{Silent, Outcome, quiet, failed, moved, fetched, InOperand, InEntry, operating, entering, step_is}
 use Rattle.audit.proofs.Chosen.{Serves}
 use Rattle.audit.proofs.Steps.{Kept, within, serves}

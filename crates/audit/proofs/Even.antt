@@ -1,9 +1,8 @@
 -- Addresses that are even stay even as they move on.
-use Rattle.std.proofs.Common.{◌≡◌, ℕ, zero, suc, ◌+◌, ◌-◌, ◌*◌, ◌%◌, ◌≤◌, Bool, true, false, cond, not, ◌&&◌, eqb, sym, refl, ap, ◌∙◌, arith}
+use Rattle.std.proofs.Common.{◌≡◌, ℕ, ◌+◌, ◌-◌, ◌*◌, ◌%◌, ◌≤◌, Bool, true, false, cond, not, ◌&&◌, eqb, refl, ap, ◌∙◌, arith}
 use Rattle.registers.specs.Bits.{odd}
 use Rattle.registers.specs.Config.{is_single, is_port16, is_misplaced, size_field, size_of, bytes_of, mac, dac, moved, next_mar, next_dar}
 use Rattle.registers.specs.declared.groups.Config.{Config}
-use Rattle.registers.specs.declared.groups.Size.{Size}
 use Rattle.registers.specs.declared.groups.Size.TheVariants.{Byte, Word, Long}
 
 moved_odd : (count n a : ℕ) → n % 2 ≡ 0 → n ≤ 8 → odd (moved count n a) ≡ odd a

@@ -1,5 +1,5 @@
 -- The list of all operands that were ever named only grows.
-use Rattle.std.proofs.Common.{◌≡◌, ℕ, zero, suc, ◌+◌, ◌-◌, ◌/◌, ◌%◌, Bool, true, false, cond, ◌&&◌, eqb, List, [], ◌∷◌, ◌++◌, length, Some, None, Option, sym, refl, ap, ◌∙◌, append_assoc, append-nil}
+use Rattle.std.proofs.Common.{◌≡◌, ℕ, zero, suc, ◌-◌, ◌/◌, ◌%◌, Bool, true, false, cond, ◌&&◌, eqb, List, [], ◌∷◌, ◌++◌, length, Some, None, Option, sym, refl, ap, ◌∙◌, append_assoc, append-nil}
 use Rattle.registers.specs.Bits.{any}
 use Rattle.registers.specs.Config.{chain_of, size_of, bytes_of}
 use Rattle.registers.specs.Control.{is_continuing}
@@ -22,7 +22,7 @@ use Rattle.dmac.specs.declared.answer.Answer.TheVariants.{Reset, Idle, Halted, R
 use Rattle.dmac.specs.Access.{register_of, register_after}
 use Rattle.audit.specs.Operand.{Operand}
 use Rattle.audit.specs.Calls.{Call, ReadByte, ReadWord, WriteByte, WriteWord, SetLine, Step, Store, Run, Reply, Byte, Word, Done, Stepped, Ended, Refused}
-use Rattle.audit.specs.Book.{Book, Gathered, nothing_gathered, with_gathered, recounted, begun, start_noted, control_noted, register_noted, half_noted, block_named, gathered_more, operand_added, block_continued, delivery_noted, operand_noted, move_noted, entry_noted, cycle_noted, word_told, word_noted, words_of_entry, entry_address, entry_count, next_entry, with_entry, bytes_told, record_noted, answer_noted, step_noted, is_done, call_noted, settled_before, book_fed}
+use Rattle.audit.specs.Book.{Book, Gathered, nothing_gathered, with_gathered, recounted, start_noted, control_noted, register_noted, half_noted, block_named, gathered_more, operand_added, block_continued, delivery_noted, operand_noted, move_noted, entry_noted, cycle_noted, word_told, word_noted, words_of_entry, entry_address, entry_count, next_entry, with_entry, bytes_told, record_noted, answer_noted, step_noted, is_done, call_noted, settled_before, book_fed}
 
 abbrev pub Grows : Book → Book → Type 0
 Grows b b' = (more : List Operand) × (b'.ever ≡ b.ever ++ more)

@@ -1,14 +1,13 @@
 -- The invariant of a channel and its book. It goes by groups of registers, so that a change of any other needs no proof.
-use Rattle.std.proofs.Common.{◌≡◌, ℕ, zero, suc, ◌+◌, ◌*◌, ◌/◌, ◌<◌, ◌≤◌, Bool, true, false, cond, not, ◌&&◌, ◌||◌, eqb, leb, List, [], ◌∷◌, ◌++◌, length, drop, sym, refl, ap, ◌∙◌, subst, append_assoc, append-nil, arith, length-append}
+use Rattle.std.proofs.Common.{◌≡◌, ℕ, zero, suc, ◌/◌, ◌<◌, ◌≤◌, Bool, true, false, cond, not, ◌&&◌, eqb, List, [], ◌∷◌, ◌++◌, length, drop, sym, refl, ap, ◌∙◌, subst, append-nil, arith, length-append}
 use lib.Bits.{and_le_r}
 use Rattle.std.proofs.lemmas.Bool.{eqb-false, leb-true, leb-false, ne_eqb}
-use Rattle.registers.specs.Config.{is_single, is_inward, is_port16, is_chained, is_misplaced, chain_field, chain_of, size_of, next_mar, next_dar}
+use Rattle.registers.specs.Config.{is_single, is_inward, is_port16, is_chained, is_misplaced, chain_field, chain_of, next_mar, next_dar}
 use Rattle.registers.specs.Status.{is_active}
 use Rattle.registers.specs.declared.groups.Config.{Config}
 use Rattle.registers.specs.declared.groups.Counters.{Counters}
 use Rattle.registers.specs.declared.groups.Table.{Table}
 use Rattle.registers.specs.declared.groups.Registers.{Registers}
-use Rattle.registers.specs.declared.groups.Chain.{Chain}
 use Rattle.registers.specs.declared.groups.Chain.TheVariants.{Plain, Array, Linked}
 use Rattle.channel.specs.declared.state.Channel.{Channel}
 use Rattle.channel.specs.declared.state.Phase.{Phase}
@@ -18,7 +17,7 @@ use Rattle.channel.specs.declared.state.Held.TheVariants.{NoByte, OneByte, TwoBy
 use Rattle.channel.specs.declared.state.Words.{Words}
 use Rattle.channel.specs.declared.state.Words.TheVariants.{NoWord, OneWord, TwoWords, ThreeWords, FourWords}
 use Rattle.cycle.specs.Plan.{plan}
-use Rattle.audit.specs.Operand.{Operand, operand, operands, dar_after}
+use Rattle.audit.specs.Operand.{Operand, operands, dar_after}
 use Rattle.audit.specs.Book.{Book, Gathered, nothing_gathered, with_gathered, recounted, settled_before, words_of_entry}
 use Rattle.audit.specs.Law.{EachOf, Faithful, DeliveredBeginsNamed, word_addresses}
 use Rattle.audit.proofs.Basics.{no}

@@ -6,7 +6,7 @@ use Rattle.devices.specs.Bank.{BankMeaning}
 use Rattle.dmac.specs.Controller.{new_controller}
 use Rattle.dmac.specs.Step.{Machine, machine_of}
 use Rattle.audit.specs.declared.log.Entry.{Entry}
-use Rattle.audit.specs.Calls.{Call, Reply, Performed, performed}
+use Rattle.audit.specs.Calls.{Call, Performed, performed}
 use Rattle.audit.specs.History.{Past, beginning, called, passed}
 use Rattle.audit.specs.Played.{calls_of, events_of, Played, entry_for, played, Lawfully}
 use Rattle.audit.proofs.Runs.{called_machine, all_lawful}

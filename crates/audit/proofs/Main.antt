@@ -1,9 +1,8 @@
 -- The law.
-use Rattle.std.proofs.Common.{◌≡◌, ℕ, zero, suc, Bool, true, false, cond, eqb, ◌⊎◌, List, [], ◌∷◌, ◌++◌, Some, None, Ok, Err, Option, sym, refl, ap, ◌∙◌, subst, inl, inr, ⊎_elim}
+use Rattle.std.proofs.Common.{◌≡◌, ℕ, zero, suc, Bool, true, false, cond, eqb, ◌⊎◌, List, [], ◌∷◌, Some, None, Ok, Err, Option, refl, ap, ◌∙◌, inl, inr}
 use Rattle.refusal.specs.declared.kinds.Refusal.TheVariants.{NoPlace, NoException}
-use Rattle.bus.specs.Memory.{MemoryMeaning, byte_set, byte_written, word_written, is_word_writable, low_address}
+use Rattle.bus.specs.Memory.{MemoryMeaning, byte_set, is_word_writable, low_address}
 use Rattle.bus.specs.Store.{Stored, is_storable}
-use Rattle.devices.specs.Bank.{BankMeaning}
 use Rattle.cycle.specs.declared.carry.End.{End}
 use Rattle.cycle.specs.declared.carry.End.TheVariants.{InMemory, InDevice, InChannel}
 use Rattle.cycle.specs.declared.record.Data.{Data}

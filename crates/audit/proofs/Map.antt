@@ -1,5 +1,5 @@
 -- What the register map says of the two halves of a word.
-use Rattle.std.proofs.Common.{◌≡◌, ℕ, zero, suc, ◌+◌, ◌-◌, ◌/◌, ◌%◌, Bool, true, false, cond, not, ◌&&◌, ◌||◌, eqb, leb, sym, refl, ap, ◌∙◌, subst, arith}
+use Rattle.std.proofs.Common.{◌≡◌, ℕ, ◌+◌, ◌-◌, ◌/◌, ◌%◌, Bool, true, false, cond, ◌&&◌, eqb, leb, sym, refl, ap, ◌∙◌, subst, arith}
 use Rattle.std.proofs.lemmas.Bool.{eqb-true, eqb-false, ne_eqb}
 use Rattle.registers.specs.Bits.{odd}
 use Rattle.registers.specs.Config.{is_chained}
@@ -8,12 +8,11 @@ use Rattle.channel.specs.declared.decode.Access.{Access}
 use Rattle.channel.specs.declared.decode.Access.TheVariants.{Nowhere, Barred, To, General}
 use Rattle.channel.specs.declared.decode.Register.{Register}
 use Rattle.channel.specs.declared.decode.Register.TheVariants.{Csr, Cer, Dcr, Ocr, Scr, Ccr, Mtc, Mar, Dar, Btc, Bar, Niv, Eiv, Mfc, Dfc, Bfc, Cpr}
-use Rattle.channel.specs.declared.state.Channel.{Channel}
 use Rattle.channel.specs.Decode.{register_at, barred_by}
 use Rattle.channel.specs.Write.{is_barred}
 use Rattle.dmac.specs.declared.controller.Dmac.{Dmac}
 use Rattle.dmac.specs.Controller.{channel_at}
-use Rattle.dmac.specs.Access.{register_of, register_after, reach_of, reach_after, is_general, is_control_register, is_control}
+use Rattle.dmac.specs.Access.{register_after, reach_after, is_general, is_control_register, is_control}
 use Rattle.audit.proofs.Basics.{no}
 
 -- What holds of every register but the control register, of that one at offset 7, of the general control register at

@@ -1,39 +1,36 @@
 -- Memory changes only at the destination of an operand that was named, or at a store's place.
-use Rattle.std.proofs.Common.{◌≡◌, ℕ, zero, suc, ◌+◌, ◌/◌, ◌%◌, ◌<◌, Bool, true, false, cond, not, ◌&&◌, ◌||◌, eqb, ltb, ◌⊎◌, List, [], ◌∷◌, ◌++◌, length, drop, Some, None, Ok, Err, Option, sym, refl, ap, ◌∙◌, subst, inl, inr, ⊎_elim, append_assoc, append-nil, arith}
+use Rattle.std.proofs.Common.{◌≡◌, ℕ, suc, ◌+◌, ◌<◌, Bool, true, false, cond, ◌&&◌, eqb, ◌⊎◌, List, [], ◌∷◌, ◌++◌, length, drop, Some, None, Ok, Err, Option, sym, refl, ap, ◌∙◌, subst, inl, inr, ⊎_elim, arith}
 use Rattle.refusal.specs.declared.kinds.Refusal.TheVariants.{NoPlace, NoException}
 use Rattle.std.proofs.lemmas.Bool.{and_parts, eqb-true}
-use Rattle.registers.specs.Config.{is_single, is_inward, is_device_memory, is_misplaced}
+use Rattle.registers.specs.Config.{is_single, is_inward, is_device_memory}
 use Rattle.registers.specs.Status.{is_active}
 use Rattle.registers.specs.declared.groups.Config.{Config}
-use Rattle.registers.specs.declared.groups.Counters.{Counters}
-use Rattle.bus.specs.Memory.{MemoryMeaning, with_byte, byte_set, byte_written, word_written, low_address, is_word_writable}
-use Rattle.bus.specs.Store.{Stored, stored, is_storable}
+use Rattle.bus.specs.Memory.{MemoryMeaning, byte_set, low_address, is_word_writable}
+use Rattle.bus.specs.Store.{Stored, is_storable}
 use Rattle.channel.specs.declared.state.Channel.{Channel}
-use Rattle.channel.specs.declared.state.Held.{Held}
 use Rattle.cycle.specs.declared.carry.End.{End}
 use Rattle.cycle.specs.declared.carry.End.TheVariants.{InMemory, InDevice, InChannel}
 use Rattle.cycle.specs.declared.plan.Way.{Way}
 use Rattle.cycle.specs.declared.plan.Way.TheVariants.{Source, Destination, Through}
 use Rattle.cycle.specs.declared.plan.Side.{Side}
 use Rattle.cycle.specs.declared.plan.Side.TheVariants.{Memory, Device}
-use Rattle.cycle.specs.declared.plan.Slot.{Slot}
 use Rattle.cycle.specs.declared.record.Data.{Data}
 use Rattle.cycle.specs.declared.record.Data.TheVariants.{Byte as ByteOf, Word as WordOf}
-use Rattle.cycle.specs.declared.record.Kind.TheVariants.{Read, Write}
+use Rattle.cycle.specs.declared.record.Kind.TheVariants.{Write}
 use Rattle.cycle.specs.Plan.{plan}
 use Rattle.cycle.specs.Carry.{side_end, destination_end_by, destination_end, source_end, count_of, data_written, memory_put, slot_code, slot_address}
 use Rattle.cycle.specs.Serve.{kind_by, slot_data}
 use Rattle.dmac.specs.Controller.{channel_at}
 use Rattle.dmac.specs.Choice.{chosen}
 use Rattle.dmac.specs.Step.{Machine, Stepped as StepDone, called as step_ok, step_chosen, step_on, step_reset, is_exception}
-use Rattle.audit.specs.Operand.{Place, in_memory, in_device, bare_device, device_place, Move, Operand, paired, operand, operands}
-use Rattle.audit.specs.Calls.{Call, ReadByte, ReadWord, WriteByte, WriteWord, SetLine, Step, Store, Run, Reply, Called, done_reply, step_reply, store_called, step_called}
+use Rattle.audit.specs.Operand.{Place, in_memory, in_device, bare_device, Move, Operand, paired, operand, operands}
+use Rattle.audit.specs.Calls.{Call, ReadByte, ReadWord, WriteByte, WriteWord, SetLine, Step, Store, Run, Reply, Called, done_reply, store_called, step_called}
 use Rattle.audit.specs.Book.{Book, bytes_told, bytes_from, places_written, is_done, settled_before, nothing_gathered}
 use Rattle.audit.specs.History.{Past, StoredAt, stores_noted, noted, stepped, registers_of}
 use Rattle.audit.specs.Law.{SomeOf, IsByte, IsDestination, IsMeant}
 use Rattle.audit.proofs.Basics.{no, some_left, some_right}
-use Rattle.audit.proofs.Plan.{fits, code_at, address_at, slot_tos, all_froms, all_tos, moves_planned, even_planned}
-use Rattle.audit.proofs.Inv.{held_list, InvX, Operating}
+use Rattle.audit.proofs.Plan.{fits, code_at, slot_tos, all_froms, all_tos, moves_planned, even_planned}
+use Rattle.audit.proofs.Inv.{InvX}
 use Rattle.audit.proofs.Flow.{length_got}
 use Rattle.audit.proofs.Carry.{code_same, address_same}
 use Rattle.audit.proofs.Outcome.{Outcome, quiet, failed, moved, fetched, Moved, slot_made, step_is}
@@ -41,7 +38,7 @@ use Rattle.audit.proofs.Chosen.{Serves}
 use Rattle.audit.proofs.Steps.{Kept, serves, found}
 use Rattle.audit.proofs.Calls.{settled_kept}
 use Rattle.audit.proofs.Cycles.{moving, moving_slot, sent_below}
-use Rattle.audit.proofs.Grows.{Grows, book_grows}
+use Rattle.audit.proofs.Grows.{book_grows}
 
 -- What was meant stays meant.
 stores_stay : (P : StoredAt → Type 0) (c : Call) (x : Reply) (l : List StoredAt) → SomeOf P l → SomeOf P (stores_noted c x l)

@@ -1,12 +1,8 @@
 -- What a bus step of a chosen channel comes to: nothing, an error, a cycle of an operand, or a word of an entry.
-use Rattle.std.proofs.Common.{◌≡◌, ℕ, zero, suc, ◌+◌, ◌*◌, ◌<◌, Bool, true, false, cond, not, ◌&&◌, ◌||◌, eqb, ◌⊎◌, List, [], ◌∷◌, ◌++◌, Some, None, Option, sym, refl, ap, ◌∙◌, subst, inl, inr, arith}
-use Rattle.std.proofs.lemmas.Bool.{and_parts}
-use Rattle.registers.specs.Bits.{odd}
-use Rattle.registers.specs.Status.{is_active}
+use Rattle.std.proofs.Common.{◌≡◌, ℕ, ◌+◌, ◌*◌, Bool, true, false, cond, ◌&&◌, ◌||◌, ◌⊎◌, Some, None, Option, sym, refl, subst, inl, inr}
 use Rattle.registers.specs.declared.fault.Fault.{Fault}
 use Rattle.registers.specs.declared.fault.Fault.TheVariants.{BaseAddress, MemoryBus, DeviceBus, BaseBus}
-use Rattle.bus.specs.Memory.{MemoryMeaning, is_word_readable, byte_at, low_address}
-use Rattle.devices.specs.Bank.{BankMeaning}
+use Rattle.bus.specs.Memory.{is_word_readable, byte_at, low_address}
 use Rattle.channel.specs.declared.state.Channel.{Channel}
 use Rattle.channel.specs.declared.state.Held.{Held}
 use Rattle.channel.specs.declared.state.Held.TheVariants.{NoByte}
@@ -25,7 +21,7 @@ use Rattle.cycle.specs.declared.record.Record.TheVariants.{Cycle}
 use Rattle.cycle.specs.declared.serve.Outcome.TheVariants.{Waiting as StillWaiting, Failed as FailedBy, Made}
 use Rattle.cycle.specs.Plan.{plan}
 use Rattle.cycle.specs.Carry.{slot_code, slot_address, is_device_cycle}
-use Rattle.cycle.specs.Serve.{Served, not_served, kind_by, side_fault, slot_carried, slot_data, is_slot_ready, is_slot_answered, slot_served, slot_at, next_served, entry_address, entry_served, phase_served, next_fault, phase_fault, is_entry_misplaced_by}
+use Rattle.cycle.specs.Serve.{Served, not_served, kind_by, side_fault, slot_carried, slot_data, is_slot_ready, is_slot_answered, slot_at, next_served, entry_address, phase_served, next_fault, phase_fault, is_entry_misplaced_by}
 use Rattle.dmac.specs.declared.answer.Answer.{Answer}
 use Rattle.dmac.specs.declared.answer.Answer.TheVariants.{Reset, Idle as IdleAnswer, Halted, Retry, Waiting, Recorded}
 use Rattle.dmac.specs.declared.step.Gate.{Gate}

@@ -1,8 +1,8 @@
 -- The plan of an operand's cycles, as the book reads them.
-use Rattle.std.proofs.Common.{◌≡◌, ℕ, zero, suc, ◌+◌, ◌-◌, ◌%◌, ◌<◌, ◌≤◌, Bool, true, false, cond, not, ◌&&◌, ◌||◌, eqb, ltb, leb, List, [], ◌∷◌, ◌++◌, length, take, drop, sym, refl, ap, ◌∙◌, subst, ap₂, append_assoc, append-nil, arith, length-append}
+use Rattle.std.proofs.Common.{◌≡◌, ℕ, ◌+◌, ◌-◌, ◌%◌, Bool, true, false, cond, not, ◌&&◌, eqb, ltb, leb, List, [], ◌∷◌, ◌++◌, length, refl, ap, ◌∙◌, ap₂, arith}
 use Rattle.std.proofs.lemmas.Bool.{eqb-false}
 use Rattle.registers.specs.Bits.{odd}
-use Rattle.registers.specs.Config.{is_single, is_inward, is_port16, is_device_memory, is_misplaced, size_field, size_of, bytes_of}
+use Rattle.registers.specs.Config.{is_single, is_inward, is_port16, is_misplaced, size_field, size_of, bytes_of}
 use Rattle.registers.specs.declared.groups.Config.{Config}
 use Rattle.registers.specs.declared.groups.Counters.{Counters}
 use Rattle.registers.specs.declared.groups.Size.{Size}
@@ -15,7 +15,7 @@ use Rattle.cycle.specs.declared.plan.Slot.{Slot}
 use Rattle.cycle.specs.Plan.{plan_by, plan}
 use Rattle.cycle.specs.Carry.{count_of}
 use Rattle.cycle.specs.Serve.{kind_by}
-use Rattle.audit.specs.Operand.{Place, in_memory, device_place, bare, Move, Operand, paired, sent_at, spread, memory_places, device_places_by, device_places, directed, operand}
+use Rattle.audit.specs.Operand.{Place, in_memory, device_place, bare, paired, sent_at, spread, device_places_by, directed, operand}
 use Rattle.audit.specs.Book.{places_read, places_written, bytes_from}
 
 -- The function code and the address that a cycle sends, by the registers.

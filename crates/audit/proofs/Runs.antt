@@ -1,5 +1,5 @@
 -- A call does to the machine what the history says.
-use Rattle.std.proofs.Common.{◌≡◌, ℕ, zero, suc, ◌+◌, ◌-◌, ◌<◌, Bool, true, false, cond, not, ◌&&◌, ltb, List, [], ◌∷◌, ◌++◌, length, Some, None, Err, Option, sym, refl, ap, ◌∙◌, subst, arith, length-append}
+use Rattle.std.proofs.Common.{◌≡◌, ℕ, zero, suc, ◌+◌, ◌-◌, Bool, true, false, cond, not, ◌&&◌, ltb, List, [], ◌∷◌, ◌++◌, length, Err, sym, refl, ap, ◌∙◌, arith, length-append}
 use Rattle.refusal.specs.declared.kinds.Refusal.TheVariants.{TraceFull}
 use Rattle.std.proofs.lemmas.Bool.{ltb-false, lt-ltb, le-ltb}
 use Rattle.bus.specs.Memory.{MemoryMeaning}
@@ -8,11 +8,10 @@ use Rattle.cycle.specs.declared.record.Record.{Record}
 use Rattle.dmac.specs.declared.answer.Answer.{Answer}
 use Rattle.dmac.specs.declared.answer.Answer.TheVariants.{Reset, Idle, Halted, Retry, Waiting, Recorded}
 use Rattle.dmac.specs.Step.{Machine}
-use Rattle.dmac.specs.Run.{plain_step, Turned, turned_by, turned, run_next, run_on, run_told, run_taken}
+use Rattle.dmac.specs.Run.{plain_step, turned_by, run_next, run_on, run_told, run_taken}
 use Rattle.audit.specs.Calls.{Call, ReadByte, ReadWord, WriteByte, WriteWord, SetLine, Step, Store, Run, Performed, performed}
 use Rattle.audit.specs.History.{Past, Event, is_recorded, stepped, run_made, called, passed, beginning, outcome}
 use Rattle.audit.specs.Tie.{event_of, Lawful, Goes_on}
-use Rattle.audit.proofs.Basics.{no}
 use Rattle.audit.proofs.Main.{law}
 
 -- One turn of a run, by what its step answers.

@@ -1,5 +1,5 @@
 -- What the changes of the status register make of ACT.
-use Rattle.std.proofs.Common.{◌≡◌, ℕ, ◌+◌, ◌-◌, ◌*◌, ◌/◌, ◌%◌, ◌^◌, ◌<◌, ◌≤◌, min, max, Bool, true, false, not, eqb, sym, refl, ap, ◌∙◌, arith}
+use Rattle.std.proofs.Common.{◌≡◌, ℕ, ◌-◌, ◌*◌, ◌/◌, ◌%◌, ◌^◌, ◌≤◌, min, max, true, false, not, eqb, ap, ◌∙◌, arith}
 use lib.Bits.{bit_and, bit_or, and_shr, or_shr, and_step, or_step, and_high, and_le_r}
 use Rattle.std.proofs.lemmas.Bool.{eqb-true, not-false}
 use Rattle.registers.specs.declared.fault.Fault.{Fault}

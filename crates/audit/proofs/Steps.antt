@@ -1,5 +1,5 @@
 -- A bus step keeps the invariant of every channel.
-use Rattle.std.proofs.Common.{◌≡◌, ℕ, zero, suc, ◌+◌, ◌*◌, ◌<◌, Bool, true, false, cond, not, ◌&&◌, ◌||◌, eqb, ltb, List, [], ◌∷◌, ◌++◌, length, get_or, drop, set, Some, None, Option, sym, refl, ap, ◌∙◌, subst, add-one, arith, length-set, drop_of_length-le, drop-cons}
+use Rattle.std.proofs.Common.{◌≡◌, ℕ, zero, suc, ◌+◌, ◌<◌, Bool, true, false, cond, eqb, ltb, List, [], ◌∷◌, length, get_or, drop, set, Some, None, Option, sym, refl, ap, ◌∙◌, subst, add-one, arith, length-set, drop_of_length-le, drop-cons}
 use Rattle.std.proofs.lemmas.Bool.{eqb-true, eqb-false, ltb-true}
 use Rattle.registers.specs.Status.{is_active}
 use Rattle.registers.specs.declared.fault.Fault.{Fault}
@@ -9,17 +9,12 @@ use Rattle.bus.specs.Memory.{MemoryMeaning}
 use Rattle.devices.specs.Bank.{BankMeaning}
 use Rattle.channel.specs.declared.state.Channel.{Channel}
 use Rattle.channel.specs.declared.state.Held.{Held}
-use Rattle.channel.specs.declared.state.Phase.TheVariants.{Idle}
 use Rattle.channel.specs.State.{blank_channel, channel_failed, channel_reset}
 use Rattle.cycle.specs.declared.plan.Way.{Way}
 use Rattle.cycle.specs.declared.plan.Way.TheVariants.{Source, Destination, Through}
 use Rattle.cycle.specs.declared.plan.Side.{Side}
 use Rattle.cycle.specs.declared.plan.Side.TheVariants.{Memory}
 use Rattle.cycle.specs.declared.plan.Slot.{Slot}
-use Rattle.cycle.specs.declared.record.Data.{Data}
-use Rattle.cycle.specs.declared.record.Kind.TheVariants.{Entry}
-use Rattle.cycle.specs.declared.record.Record.{Record}
-use Rattle.cycle.specs.declared.record.Record.TheVariants.{Cycle, Error}
 use Rattle.cycle.specs.Held.{held_first}
 use Rattle.cycle.specs.Plan.{plan, slot}
 use Rattle.cycle.specs.Carry.{data_got, source_end_by, source_end, slot_code, slot_address}
@@ -31,13 +26,13 @@ use Rattle.dmac.specs.Choice.{chosen}
 use Rattle.dmac.specs.Step.{Machine, Stepped, step_quiet, step_failed, step_chosen, step_on, step_reset}
 use Rattle.audit.specs.Book.{Book, answer_noted, cycle_noted, word_noted, bytes_told}
 use Rattle.audit.specs.History.{registers_of}
-use Rattle.audit.proofs.Basics.{no, at_set, at_set_alone}
-use Rattle.audit.proofs.Inv.{held_list, words_list, InvX, inv_stop}
+use Rattle.audit.proofs.Basics.{at_set, at_set_alone}
+use Rattle.audit.proofs.Inv.{InvX, inv_stop}
 use Rattle.audit.proofs.Writes.{fail_inv}
 use Rattle.audit.proofs.Flow.{length_got}
 use Rattle.audit.proofs.Carry.{carried_inv}
 use Rattle.audit.proofs.Entries.{entry_inv}
-use Rattle.audit.proofs.Outcome.{Silent, Outcome, quiet, failed, moved, fetched, Moved, Fetched, slot_made, entry_made, entry_high, entry_low, operating, entering, step_is}
+use Rattle.audit.proofs.Outcome.{Silent, Outcome, quiet, failed, moved, fetched, Moved, slot_made, entry_made, entry_high, entry_low, operating, entering, step_is}
 use Rattle.audit.proofs.Chosen.{Serves, chosen_serves}
 
 -- There are four channels, and the invariant holds of each with its book.

@@ -1,10 +1,10 @@
 -- What a cycle tells is true: what its source gave, and what its destination then has.
-use Rattle.std.proofs.Common.{◌≡◌, ℕ, zero, suc, ◌+◌, ◌-◌, ◌%◌, ◌<◌, ◌≤◌, Bool, true, false, cond, not, ◌&&◌, ◌||◌, eqb, leb, List, [], ◌∷◌, ◌++◌, length, get_or, drop, Some, None, Option, sym, refl, ap, ◌∙◌, subst, append-nil, arith}
-use Rattle.std.proofs.lemmas.Bool.{and_parts, eq-eqb, ne_eqb, leb-true}
+use Rattle.std.proofs.Common.{◌≡◌, ℕ, zero, suc, ◌+◌, ◌<◌, ◌≤◌, Bool, true, false, cond, List, [], ◌∷◌, ◌++◌, length, get_or, drop, sym, refl, ap, ◌∙◌, append-nil, arith}
+use Rattle.std.proofs.lemmas.Bool.{eq-eqb, ne_eqb, leb-true}
 use Rattle.registers.specs.Config.{is_inward, is_device_memory}
 use Rattle.registers.specs.declared.groups.Config.{Config}
-use Rattle.bus.specs.Memory.{MemoryMeaning, byte_at, byte_set, byte_read, word_read, byte_written, word_written, low_address, is_word_readable, is_word_writable}
-use Rattle.devices.specs.Bank.{BankMeaning, with_at, can_give, can_take, given, taken, give_tried, take_tried, byte_handed, word_handed}
+use Rattle.bus.specs.Memory.{MemoryMeaning, byte_at, byte_set, low_address}
+use Rattle.devices.specs.Bank.{BankMeaning, with_at, can_give, can_take, taken}
 use Rattle.channel.specs.declared.state.Held.{Held}
 use Rattle.cycle.specs.declared.carry.End.{End}
 use Rattle.cycle.specs.declared.carry.End.TheVariants.{InMemory, InDevice, InChannel}
@@ -16,10 +16,10 @@ use Rattle.cycle.specs.declared.record.Data.{Data}
 use Rattle.cycle.specs.declared.record.Data.TheVariants.{Byte as ByteOf, Word as WordOf}
 use Rattle.cycle.specs.declared.record.Kind.{Kind}
 use Rattle.cycle.specs.declared.record.Kind.TheVariants.{Read, Write}
-use Rattle.cycle.specs.Held.{data_bytes, byte_data, word_data}
-use Rattle.cycle.specs.Carry.{side_end, source_end_by, destination_end_by, count_of, is_source_ready, is_destination_ready, is_source_answered, is_destination_answered, data_got, bank_got, data_written, memory_put, bank_put}
+use Rattle.cycle.specs.Held.{data_bytes}
+use Rattle.cycle.specs.Carry.{side_end, source_end_by, destination_end_by, count_of, is_source_ready, is_destination_ready, is_source_answered, is_destination_answered, data_got, bank_got, memory_put, bank_put}
 use Rattle.cycle.specs.Serve.{kind_by}
-use Rattle.audit.specs.Operand.{Place, in_memory, in_device, bare_device, device_place, bare}
+use Rattle.audit.specs.Operand.{Place, in_memory, in_device, bare}
 use Rattle.audit.specs.Book.{bytes_told, bytes_from, places_read, places_written}
 use Rattle.audit.specs.Truth.{MemoryHolds, device_bytes}
 use Rattle.audit.proofs.Basics.{no}

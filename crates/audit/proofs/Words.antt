@@ -1,6 +1,5 @@
 -- Byte and word writes, barred or made.
-use Rattle.std.proofs.Common.{◌≡◌, ℕ, zero, suc, ◌+◌, Bool, true, false, cond, not, ◌&&◌, ◌||◌, Some, None, Option, sym, refl, ap, ◌∙◌, subst}
-use Rattle.std.proofs.lemmas.Bool.{or_parts}
+use Rattle.std.proofs.Common.{◌≡◌, ℕ, Bool, true, false, cond, ◌&&◌, ◌||◌, sym, refl, ap, ◌∙◌, subst}
 use Rattle.registers.specs.Bits.{any}
 use Rattle.registers.specs.Config.{is_chained}
 use Rattle.registers.specs.Status.{is_active}

@@ -1,9 +1,8 @@
 -- Register writes keep the invariant.
-use Rattle.std.proofs.Common.{◌≡◌, ℕ, zero, suc, ◌+◌, ◌≤◌, Bool, true, false, cond, not, ◌&&◌, ◌||◌, eqb, List, [], ◌∷◌, ◌++◌, length, Some, None, Option, sym, refl, ap, ◌∙◌, subst, arith}
-use Rattle.std.proofs.lemmas.Bool.{or_parts, eqb-false}
+use Rattle.std.proofs.Common.{◌≡◌, ℕ, zero, suc, Bool, true, false, cond, not, ◌&&◌, eqb, List, [], ◌∷◌, Some, None, Option, sym, refl, arith}
 use Rattle.registers.specs.Bits.{any}
-use Rattle.registers.specs.Checks.{Check, check, first_failing}
-use Rattle.registers.specs.Config.{is_single, is_port16, is_chained, is_misplaced, chain_field, chain_of}
+use Rattle.registers.specs.Checks.{Check, first_failing}
+use Rattle.registers.specs.Config.{is_single, is_port16, is_chained, is_misplaced}
 use Rattle.registers.specs.Control.{stored, continued}
 use Rattle.registers.specs.Status.{is_active, is_block_done, activated}
 use Rattle.registers.specs.declared.fault.Fault.{Fault}
@@ -13,22 +12,17 @@ use Rattle.registers.specs.declared.groups.Counters.{Counters}
 use Rattle.registers.specs.declared.groups.Control.{Control}
 use Rattle.registers.specs.declared.groups.Table.{Table}
 use Rattle.registers.specs.declared.groups.Registers.{Registers}
-use Rattle.registers.specs.declared.groups.Chain.{Chain}
-use Rattle.registers.specs.declared.groups.Chain.TheVariants.{Plain, Array, Linked}
-use Rattle.channel.specs.declared.decode.Access.{Access}
-use Rattle.channel.specs.declared.decode.Access.TheVariants.{Nowhere, Barred, To, General}
 use Rattle.channel.specs.declared.decode.Register.{Register}
 use Rattle.channel.specs.declared.decode.Register.TheVariants.{Csr, Cer, Dcr, Ocr, Scr, Ccr, Mtc, Mar, Dar, Btc, Bar, Niv, Eiv, Mfc, Dfc, Bfc, Cpr}
 use Rattle.channel.specs.declared.state.Channel.{Channel}
 use Rattle.channel.specs.declared.state.Phase.{Phase}
-use Rattle.channel.specs.declared.state.Phase.TheVariants.{Idle, Fetching, Inside}
+use Rattle.channel.specs.declared.state.Phase.TheVariants.{Idle, Fetching}
 use Rattle.channel.specs.declared.state.Words.TheVariants.{NoWord}
 use Rattle.channel.specs.Decode.{is_locked}
 use Rattle.channel.specs.State.{with_control, channel_failed}
-use Rattle.channel.specs.Start.{start_checks, start_fault, started, start_tried_by, continue_tried, abort_tried, commanded, control_written}
+use Rattle.channel.specs.Start.{start_checks, start_fault, started, start_tried_by, continue_tried, abort_tried, control_written}
 use Rattle.channel.specs.Write.{register_written}
-use Rattle.audit.specs.Operand.{Operand, operands}
-use Rattle.audit.specs.Book.{Book, begun, first_block, start_noted, control_noted, register_noted, recounted, words_of_entry}
+use Rattle.audit.specs.Book.{Book, begun, first_block, start_noted, control_noted, register_noted, recounted}
 use Rattle.audit.specs.Law.{EachOf}
 use Rattle.audit.proofs.Basics.{no}
 use Rattle.audit.proofs.Status.{failed_inactive, activated_active, cleared_active, calm_inactive}

@@ -1,6 +1,6 @@
 -- The plain book of one channel: what its operations named and what they delivered. It is fed each call, its reply and
 -- the channel's registers before it, and sees nothing of the controller's inside.
-use Rattle.std.specs.Prelude.{ℕ, zero, suc, ◌+◌, ◌-◌, ◌*◌, ◌/◌, ◌%◌, Bool, true, false, cond, not, ◌&&◌, List, [], ◌∷◌, ◌++◌, length, Some, None, Option, ◌==◌, slice_index}
+use Rattle.std.specs.Prelude.{ℕ, zero, suc, ◌+◌, ◌-◌, ◌*◌, ◌/◌, ◌%◌, Bool, true, false, cond, ◌&&◌, List, [], ◌∷◌, ◌++◌, length, Some, None, Option, ◌==◌, slice_index}
 use Rattle.registers.specs.Bits.{any}
 use Rattle.registers.specs.Config.{is_single, is_inward, is_chained, chain_of, size_of, bytes_of}
 use Rattle.registers.specs.Control.{is_continuing}

@@ -1,10 +1,10 @@
 -- Worked histories, so that the definitions are seen at work.
-use Rattle.std.specs.Prelude.{◌≡◌, ℕ, zero, suc, Bool, true, false, List, [], ◌∷◌, ◌++◌, map}
+use Rattle.std.specs.Prelude.{◌≡◌, ℕ, zero, suc, false, List, [], ◌∷◌, map}
 use Rattle.bus.specs.Memory.{flat, byte_at}
 use Rattle.devices.specs.Bank.{nothing}
 use Rattle.audit.specs.Operand.{Place, in_memory, in_device, bare_device, Move, Operand}
 use Rattle.audit.specs.Calls.{Call, WriteByte, Step, Store, Run}
-use Rattle.audit.specs.History.{Past, Event, registers_of, outcome}
+use Rattle.audit.specs.History.{Past, registers_of, outcome}
 
 -- A memory of so many bytes of 0.
 abbrev pub zeros : ℕ → List ℕ

@@ -1,5 +1,5 @@
 -- Histories of calls, from a new controller.
-use Rattle.std.specs.Prelude.{ℕ, zero, suc, ◌+◌, Bool, true, false, cond, List, [], ◌∷◌, ◌++◌}
+use Rattle.std.specs.Prelude.{ℕ, zero, suc, Bool, true, false, cond, List, [], ◌∷◌, ◌++◌}
 use Rattle.registers.specs.declared.groups.Registers.{Registers}
 use Rattle.bus.specs.Memory.{MemoryMeaning}
 use Rattle.devices.specs.Bank.{BankMeaning}
@@ -8,7 +8,7 @@ use Rattle.dmac.specs.declared.answer.Answer.TheVariants.{Reset, Idle, Halted, R
 use Rattle.dmac.specs.Controller.{new_controller, channel_at}
 use Rattle.dmac.specs.Step.{Machine, machine_of}
 use Rattle.dmac.specs.Run.{plain_step}
-use Rattle.audit.specs.Calls.{Call, ReadByte, ReadWord, WriteByte, WriteWord, SetLine, Step, Store, Run, Reply, Byte, Word, Done, Stepped, Ended, Refused, Called, byte_read_called, word_read_called, byte_write_called, word_write_called, line_called, step_called, store_called}
+use Rattle.audit.specs.Calls.{Call, ReadByte, ReadWord, WriteByte, WriteWord, SetLine, Step, Store, Run, Reply, Called, byte_read_called, word_read_called, byte_write_called, word_write_called, line_called, step_called, store_called}
 use Rattle.audit.specs.Book.{Book, empty_book, book_fed, is_done}
 
 -- The registers that channel n shows.

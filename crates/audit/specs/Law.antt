@@ -1,5 +1,5 @@
 -- The law over every history of calls: no operand is lost, moved twice or written elsewhere.
-use Rattle.std.specs.Prelude.{◌≡◌, ℕ, zero, suc, ◌+◌, ◌*◌, ◌<◌, Bool, true, false, ◌⊎◌, List, [], ◌∷◌, ◌++◌, length, ◌≢◌}
+use Rattle.std.specs.Prelude.{◌≡◌, ℕ, zero, suc, ◌*◌, ◌<◌, Bool, true, ◌⊎◌, List, [], ◌∷◌, ◌++◌, length, ◌≢◌}
 use Rattle.registers.specs.declared.fault.Fault.{Fault}
 use Rattle.registers.specs.declared.fault.Fault.TheVariants.{MemoryBus, DeviceBus, BaseBus}
 use Rattle.registers.specs.declared.groups.Registers.{Registers}
@@ -8,11 +8,10 @@ use Rattle.devices.specs.Bank.{BankMeaning}
 use Rattle.cycle.specs.declared.record.Record.TheVariants.{Error}
 use Rattle.dmac.specs.declared.answer.Answer.TheVariants.{Recorded}
 use Rattle.dmac.specs.Controller.{channel_at}
-use Rattle.dmac.specs.Step.{Machine}
 use Rattle.audit.specs.Operand.{Place, in_memory, in_device, bare_device, Operand, sent_at}
-use Rattle.audit.specs.Calls.{Call, Stepped, Reply, step_called}
+use Rattle.audit.specs.Calls.{Stepped, step_called}
 use Rattle.audit.specs.Book.{Book, Delivery}
-use Rattle.audit.specs.History.{Past, StoredAt, Event, registers_of, stepped, outcome}
+use Rattle.audit.specs.History.{Past, Event, registers_of, stepped, outcome}
 use Rattle.audit.specs.Truth.{ReplyTrue}
 
 module _ {A : Type 0} where

@@ -1,11 +1,11 @@
 -- A log of calls, played from a new controller.
-use Rattle.std.specs.Prelude.{◌≡◌, ℕ, ◌-◌, List, [], ◌∷◌, map, length}
+use Rattle.std.specs.Prelude.{◌≡◌, ℕ, ◌-◌, List, [], ◌∷◌, length}
 use Rattle.bus.specs.Memory.{MemoryMeaning}
 use Rattle.devices.specs.Bank.{BankMeaning}
 use Rattle.cycle.specs.declared.record.Record.{Record}
 use Rattle.dmac.specs.Step.{Machine}
 use Rattle.audit.specs.declared.log.Entry.{Entry}
-use Rattle.audit.specs.Calls.{Call, Reply, performed}
+use Rattle.audit.specs.Calls.{Call, performed}
 use Rattle.audit.specs.History.{Event, outcome}
 use Rattle.audit.specs.Tie.{Lawful}
 

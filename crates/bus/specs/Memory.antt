@@ -1,5 +1,5 @@
 -- What a memory means. A place is a function code (0 to 7) and an address below $1000000.
-use Rattle.std.specs.Prelude.{ℕ, ◌+◌, ◌*◌, ◌/◌, ◌%◌, Bool, true, false, cond, ◌&&◌, List, length, Some, None, Option, ◌==◌, nat_lt, slice_index}
+use Rattle.std.specs.Prelude.{ℕ, ◌+◌, ◌*◌, ◌/◌, ◌%◌, Bool, cond, ◌&&◌, List, length, Some, None, Option, ◌==◌, nat_lt, slice_index}
 
 -- The places that are answered for reading and for writing, the space number of each code, and the byte at each
 -- space and address. Two codes with one space number name the same bytes.

@@ -1,5 +1,5 @@
 -- Delivery of an operand, and what follows at the end of a block.
-use Rattle.std.specs.Prelude.{ℕ, ◌+◌, ◌-◌, ◌*◌, ◌%◌, Bool, true, false, cond, ◌==◌}
+use Rattle.std.specs.Prelude.{ℕ, ◌+◌, ◌-◌, ◌*◌, ◌%◌, Bool, cond, ◌==◌}
 use Rattle.registers.specs.Config.{chain_of, is_misplaced, next_mar, next_dar}
 use Rattle.registers.specs.Control.{is_continuing, uncontinued}
 use Rattle.registers.specs.Status.{completed, ended, block_done}
@@ -9,7 +9,7 @@ use Rattle.registers.specs.declared.groups.Counters.{Counters}
 use Rattle.registers.specs.declared.groups.Table.{Table}
 use Rattle.registers.specs.declared.groups.Chain.{Chain}
 use Rattle.registers.specs.declared.groups.Chain.TheVariants.{Plain, Array, Linked}
-use Rattle.channel.specs.State.{Channel, Phase, Idle, Fetching, Inside, Words, NoWord, OneWord, TwoWords, ThreeWords, FourWords, with_counters, with_table, with_status, with_control, with_phase, channel_failed}
+use Rattle.channel.specs.State.{Channel, Idle, Fetching, Words, NoWord, OneWord, TwoWords, ThreeWords, FourWords, with_counters, with_table, with_status, with_control, with_phase, channel_failed}
 
 -- The counter falls by one, and the addresses move on.
 abbrev pub counters_moved : Config → Counters → Counters

@@ -9,7 +9,7 @@ use Rattle.registers.specs.declared.fault.Fault.{Fault}
 use Rattle.registers.specs.declared.fault.Fault.TheVariants.{Configuration, Timing, MemoryAddress, DeviceAddress, BaseAddress, MemoryCount, BaseCount, Abort}
 use Rattle.registers.specs.declared.groups.Counters.{Counters}
 use Rattle.registers.specs.declared.groups.Registers.{Registers}
-use Rattle.channel.specs.State.{Channel, Phase, Idle, Fetching, NoWord, with_counters, with_status, with_control, with_phase, with_requests, channel_failed}
+use Rattle.channel.specs.State.{Channel, Idle, Fetching, NoWord, with_counters, with_status, with_control, with_phase, with_requests, channel_failed}
 
 -- The checks of a start, in their order:
 --   2   something of an earlier operation stands in the status

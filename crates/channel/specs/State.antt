@@ -1,5 +1,5 @@
 -- A channel's state: new, after an error, after a reset.
-use Rattle.std.specs.Prelude.{ℕ, Bool, true, false}
+use Rattle.std.specs.Prelude.{Bool, false}
 use Rattle.registers.specs.declared.fault.Fault.{Fault}
 use Rattle.registers.specs.declared.groups.Config.{Config}
 use Rattle.registers.specs.declared.groups.Counters.{Counters}

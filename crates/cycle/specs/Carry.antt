@@ -1,5 +1,5 @@
 -- What a cycle moves: from memory, from the channel's device or from what the channel holds, and to one of these.
-use Rattle.std.specs.Prelude.{ℕ, ◌+◌, ◌%◌, Bool, true, false, cond, ◌&&◌, ◌||◌, List, [], ◌∷◌}
+use Rattle.std.specs.Prelude.{ℕ, ◌+◌, ◌%◌, Bool, true, false, cond, ◌||◌}
 use Rattle.registers.specs.Config.{is_inward, is_device_memory}
 use Rattle.registers.specs.declared.groups.Config.{Config}
 use Rattle.bus.specs.Memory.{MemoryMeaning, byte_read, byte_written, is_word_readable, is_word_writable, word_read, word_written}

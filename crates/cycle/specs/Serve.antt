@@ -1,5 +1,5 @@
 -- One cycle of a channel: an operand's or an entry's.
-use Rattle.std.specs.Prelude.{◌≡◌, ℕ, ◌+◌, ◌*◌, Bool, true, false, cond, ◌&&◌, ◌||◌, List, [], ◌∷◌, length, Some, None, Option, ◌==◌, nat_lt, slice_index_or}
+use Rattle.std.specs.Prelude.{◌≡◌, ℕ, ◌+◌, ◌*◌, Bool, false, cond, ◌&&◌, ◌||◌, List, length, Some, None, Option, ◌==◌, nat_lt, slice_index_or}
 use Rattle.registers.specs.Bits.{odd}
 use Rattle.registers.specs.Config.{is_inward}
 use Rattle.registers.specs.declared.fault.Fault.{Fault}
@@ -15,11 +15,11 @@ use Rattle.channel.specs.declared.state.Phase.TheVariants.{Idle, Fetching, Insid
 use Rattle.channel.specs.declared.state.Words.{Words}
 use Rattle.channel.specs.declared.state.Words.TheVariants.{NoWord, OneWord, TwoWords, ThreeWords, FourWords}
 use Rattle.channel.specs.State.{with_phase, with_requests}
-use Rattle.channel.specs.Requests.{is_automatic, has_words}
+use Rattle.channel.specs.Requests.{is_automatic}
 use Rattle.channel.specs.Operation.{operand_delivered, entry_word_taken, words_read}
 use Rattle.cycle.specs.Plan.{Slot, Way, Source, Destination, Through, Side, Memory, Device, slot, plan}
 use Rattle.cycle.specs.Held.{Data, WordOf}
-use Rattle.cycle.specs.Carry.{End, sent, source_end, destination_end, is_device_cycle, slot_code, slot_address, is_source_ready, is_destination_ready, is_source_answered, is_destination_answered, data_got, bank_got, memory_put, bank_put, held_after}
+use Rattle.cycle.specs.Carry.{sent, source_end, destination_end, is_device_cycle, slot_code, slot_address, is_source_ready, is_destination_ready, is_source_answered, is_destination_answered, data_got, bank_got, memory_put, bank_put, held_after}
 pub use Rattle.cycle.specs.declared.record.Kind.{Kind}
 pub use Rattle.cycle.specs.declared.record.Kind.TheVariants.{Read, Write, Entry}
 pub use Rattle.cycle.specs.declared.record.Record.{Record}

@@ -1,5 +1,5 @@
 -- What a device bank means.
-use Rattle.std.specs.Prelude.{ℕ, ◌-◌, Bool, true, false, cond, ◌&&◌, List, [], ◌∷◌, ◌++◌, length, drop, Some, None, Option, ◌==◌, nat_le, nat_lt, slice_index}
+use Rattle.std.specs.Prelude.{ℕ, ◌-◌, Bool, cond, ◌&&◌, List, [], ◌++◌, length, drop, Some, None, Option, ◌==◌, nat_le, nat_lt, slice_index}
 
 -- For each channel: the bytes that wait to be read, the bytes kept, and the number of free places.
 pub record BankMeaning : Type 0 where

@@ -1,5 +1,5 @@
 -- One turn of a run: it is full, it ends, or it goes on with one step less.
-use Rattle.std.proofs.Common.{◌≡◌, ℕ, zero, suc, ◌+◌, Bool, true, false, cond, not, ltb, List, length, Some, None, Option, sym, refl, ap, ◌∙◌}
+use Rattle.std.proofs.Common.{◌≡◌, ℕ, suc, ◌+◌, Bool, true, false, cond, not, ltb, List, length, Some, None, Option, sym, refl, ap, ◌∙◌}
 use Rattle.cycle.specs.declared.record.Record.{Record}
 use Rattle.dmac.specs.Step.{Machine}
 use Rattle.dmac.specs.Run.{Ending, Full, Running, Turned, ended, turned, run_next, run_on}

@@ -1,14 +1,13 @@
 -- Register access: a byte or a word at an offset 0 to 255. Channel c has the offsets 64 × c to 64 × c + 63.
-use Rattle.std.specs.Prelude.{ℕ, ◌+◌, ◌*◌, ◌/◌, ◌%◌, Bool, true, false, cond, ◌&&◌, List, [], ◌∷◌, Some, None, Ok, Err, Option, Result, ◌==◌, bit_and}
+use Rattle.std.specs.Prelude.{ℕ, ◌+◌, ◌*◌, ◌/◌, ◌%◌, Bool, true, false, cond, ◌&&◌, [], ◌∷◌, Some, None, Ok, Err, Option, Result, ◌==◌, bit_and}
 use Rattle.refusal.specs.declared.kinds.Refusal.{Refusal}
 use Rattle.refusal.specs.declared.kinds.Refusal.TheVariants.{NoRegister, OddWord, StartByWord}
 use Rattle.registers.specs.Bits.{any, odd}
-use Rattle.registers.specs.Checks.{Check, check, first_failing}
+use Rattle.registers.specs.Checks.{check, first_failing}
 use Rattle.channel.specs.declared.decode.Access.{Access}
 use Rattle.channel.specs.declared.decode.Access.TheVariants.{Nowhere, Barred, To, General}
 use Rattle.channel.specs.declared.decode.Register.{Register}
 use Rattle.channel.specs.declared.decode.Register.TheVariants.{Csr, Cer, Dcr, Ocr, Scr, Ccr, Mtc, Mar, Dar, Btc, Bar, Niv, Eiv, Mfc, Dfc, Bfc, Cpr}
-use Rattle.channel.specs.declared.state.Channel.{Channel}
 use Rattle.channel.specs.Decode.{access_at}
 use Rattle.channel.specs.Read.{register_read}
 use Rattle.channel.specs.Write.{reached, written}

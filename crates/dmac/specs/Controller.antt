@@ -1,5 +1,5 @@
 -- The controller's state: new, after a reset, and one channel of it.
-use Rattle.std.specs.Prelude.{ℕ, Bool, true, false, List, [], ◌∷◌, slice_index_or, slice_set}
+use Rattle.std.specs.Prelude.{ℕ, false, [], ◌∷◌, slice_index_or, slice_set}
 use Rattle.channel.specs.declared.state.Channel.{Channel}
 use Rattle.channel.specs.State.{blank_channel, new_channel, channel_reset}
 pub use Rattle.dmac.specs.declared.controller.Dmac.{Dmac}

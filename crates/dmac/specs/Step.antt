@@ -6,7 +6,6 @@ use Rattle.registers.specs.declared.fault.Fault.{Fault}
 use Rattle.registers.specs.declared.fault.Fault.TheVariants.{BaseAddress}
 use Rattle.bus.specs.Memory.{MemoryMeaning}
 use Rattle.devices.specs.Bank.{BankMeaning}
-use Rattle.channel.specs.declared.state.Channel.{Channel}
 use Rattle.channel.specs.State.{channel_failed}
 use Rattle.cycle.specs.declared.record.Record.{Record}
 use Rattle.cycle.specs.declared.record.Record.TheVariants.{Error}
