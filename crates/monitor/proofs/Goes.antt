@@ -1,9 +1,7 @@
 -- Every line of a script goes on with the history as its calls do.
-use Rattle.std.proofs.Common.{◌≡◌, ℕ, zero, suc, ◌+◌, ◌-◌, Bool, true, false, cond, leb, List, [], ◌∷◌, ◌++◌, length, take, IfOk, Some, None, Ok, Err, Option, Result, sym, refl, ap, ◌∙◌, subst}
+use Rattle.std.proofs.Common.{◌≡◌, ℕ, zero, suc, ◌+◌, Bool, true, false, cond, List, [], ◌∷◌, ◌++◌, length, take, IfOk, Some, None, Ok, Err, Option, Result, sym, refl, ap, ◌∙◌}
 use Rattle.refusal.specs.declared.kinds.Refusal.{Refusal}
 use Rattle.refusal.specs.declared.kinds.Refusal.TheVariants.{PastTheEnd, NoPlace}
-use Rattle.bus.specs.Memory.{MemoryMeaning}
-use Rattle.bus.specs.Store.{stored}
 use Rattle.devices.specs.Bank.{BankMeaning, nothing}
 use Rattle.cycle.specs.declared.carry.End.{End}
 use Rattle.cycle.specs.declared.carry.End.TheVariants.{InMemory, InDevice, InChannel}
@@ -17,11 +15,9 @@ use Rattle.dmac.specs.Step.{Machine, Stepped, machine_of, step_chosen, step_on}
 use Rattle.dmac.specs.declared.run.Ran.{Ran}
 use Rattle.dmac.specs.Run.{plain_step, run_taken}
 use Rattle.cycle.specs.declared.record.Record.{Record}
-use Rattle.audit.specs.declared.call.Call.{Call}
 use Rattle.audit.specs.declared.call.Call.TheVariants.{ReadByte, WriteByte, Store, Run}
 use Rattle.audit.specs.Calls.{performed}
 use Rattle.audit.specs.History.{Past, Event, beginning, stepped, is_recorded, run_made, called, passed, outcome}
-use Rattle.audit.specs.Tie.{Lawful}
 use Rattle.audit.proofs.Outcome.{Outcome, quiet, failed, moved, fetched, step_is}
 use Rattle.audit.proofs.Runs.{called_machine, all_lawful}
 use Rattle.script.specs.Command.{Said, write, read, fill, show, run, parsed}

@@ -1,5 +1,5 @@
 -- What a script does to a controller and a memory, and what it prints.
-use Rattle.std.specs.Prelude.{ℕ, Bool, cond, List, [], ◌∷◌, ◌++◌, length, take, Ok, Err, Result}
+use Rattle.std.specs.Prelude.{ℕ, cond, List, [], ◌∷◌, ◌++◌, length, take, Ok, Err, Result}
 use Rattle.refusal.specs.declared.kinds.Refusal.{Refusal}
 use Rattle.refusal.specs.declared.kinds.Refusal.TheVariants.{PastTheEnd, NoPlace}
 use Rattle.bus.specs.Memory.{MemoryMeaning}
@@ -7,7 +7,7 @@ use Rattle.dmac.specs.declared.controller.Dmac.{Dmac}
 use Rattle.cycle.specs.declared.record.Record.{Record}
 use Rattle.devices.specs.Bank.{nothing}
 use Rattle.dmac.specs.declared.run.Ran.{Ran}
-use Rattle.dmac.specs.Access.{Outcome, byte_read, byte_written}
+use Rattle.dmac.specs.Access.{byte_read, byte_written}
 use Rattle.dmac.specs.Run.{run_taken}
 use Rattle.dmac.specs.Step.{machine_of}
 use Rattle.script.specs.Command.{Said, write, read, fill, show, run, parsed}

@@ -1,5 +1,5 @@
 -- What a script prints of the replies to its calls.
-use Rattle.std.specs.Prelude.{ℕ, List, [], ◌∷◌, ◌++◌}
+use Rattle.std.specs.Prelude.{ℕ, List, [], ◌++◌}
 use Rattle.cycle.specs.declared.record.Record.{Record}
 use Rattle.devices.specs.Bank.{nothing}
 use Rattle.dmac.specs.Step.{machine_of}

@@ -77,8 +77,8 @@ fn data_of_a_fill(rt: HostRuntime) {
 #[test]
 fn lines_of_a_script(rt: HostRuntime) {
     let script = b"R 00\nR 01";
-    assert!(rt; first_line(script) == b"R 00");
-    assert!(rt; after_line(script, 4) == b"R 01");
+    assert!(rt; first_line(script) == b"R 00".as_slice());
+    assert!(rt; after_line(script, 4) == b"R 01".as_slice());
     assert!(rt; after_line(script, 9).is_empty());
     assert!(rt; first_line(b"\nR 01").is_empty());
 }
@@ -90,6 +90,6 @@ fn answers(rt: HostRuntime) -> Result<(), Fail> {
     put_byte(&mut out, 0x2A)?;
     put_refusal(&mut out, Refusal::NoCommand)?;
     put_refusal(&mut out, Refusal::TraceFull)?;
-    assert!(rt; out.as_slice() == b"OK\n2A\nE 06\nE 10\n");
+    assert!(rt; out.as_slice() == b"OK\n2A\nE 06\nE 10\n".as_slice());
     Ok(())
 }
