@@ -9,7 +9,7 @@ ghost use Rattle.script.specs.Digits.{data_bytes};
 ghost use Rattle.script.specs.Lines.{lines};
 ghost use Rattle.script.specs.Text.{refusal_text};
 ghost use Rattle.monitor.specs.History.{ScriptGoesOn};
-ghost use Rattle.monitor.specs.Monitor.{Session, session_of, write_done, read_done, fill_done, show_done, run_done, line_done, lines_done, script_done};
+ghost use Rattle.monitor.specs.Monitor.{Session, session_of, done_text, value_text, write_done, read_done, fill_done, show_done, run_done, line_done, lines_done, script_done};
 ghost use Rattle.monitor.specs.Replies.{reply_text, run_text, answered};
 
 use crate::area::{fill, is_past_the_end, put_area, takes_all};
@@ -171,13 +171,33 @@ fn beginning<'a>(script: &'a [u8]) -> &'a [u8]
     }
 }
 
+// What a register write replies.
+fn put_done(done: Result<(), Refusal>, out: &mut Vec<u8>) -> Result<(), AllocError>
+    ensures { OnOk result (out.new.items ≡ out.old.items ++ done_text done) }
+{
+    match done {
+        Ok(()) => put_ok(out),
+        Err(refusal) => put_refusal(out, refusal),
+    }
+}
+
+// What a register read replies.
+fn put_value(value: Result<u8, Refusal>, out: &mut Vec<u8>) -> Result<(), AllocError>
+    ensures { OnOk result (out.new.items ≡ out.old.items ++ value_text value) }
+{
+    match value {
+        Ok(byte) => put_byte(out, byte),
+        Err(refusal) => put_refusal(out, refusal),
+    }
+}
+
 // What a call replies that is no run.
 fn put_reply(reply: Reply, out: &mut Vec<u8>) -> Result<(), AllocError>
     ensures { OnOk result (out.new.items ≡ out.old.items ++ reply_text reply) }
 {
     match reply {
-        Reply::Done => put_ok(out),
-        Reply::Byte(byte) => put_byte(out, byte),
+        Reply::Done => put_done(Ok(()), out),
+        Reply::Byte(byte) => put_value(Ok(byte), out),
         Reply::Refused(refusal) => put_refusal(out, refusal),
         Reply::Word(_) | Reply::Stepped(_) | Reply::Ended(_) => Ok(()),
     }

@@ -26,9 +26,16 @@ pub fn put_number(out: &mut Vec<u8>, number: usize) -> Result<(), AllocError> {
     put_text(out, &[b'0' + (number % 10) as u8])
 }
 
-fn put_refusal(out: &mut Vec<u8>, refusal: Refusal) -> Result<(), AllocError> {
+pub fn put_refusal(out: &mut Vec<u8>, refusal: Refusal) -> Result<(), AllocError> {
     put_text(out, b"refused ")?;
     put_number(out, refusal.number() as usize)
+}
+
+pub fn put_done(out: &mut Vec<u8>, done: Result<(), Refusal>) -> Result<(), AllocError> {
+    match done {
+        Ok(()) => put_text(out, b"ok"),
+        Err(refusal) => put_refusal(out, refusal),
+    }
 }
 
 pub fn put_read_byte(out: &mut Vec<u8>, read: Result<u8, Refusal>) -> Result<(), AllocError> {
@@ -42,6 +49,13 @@ pub fn put_read_byte(out: &mut Vec<u8>, read: Result<u8, Refusal>) -> Result<(),
 fn put_pairs(out: &mut Vec<u8>, high: u8, low: u8) -> Result<(), AllocError> {
     put_pair(out, high)?;
     put_pair(out, low)
+}
+
+pub fn put_read_word(out: &mut Vec<u8>, read: Result<u16, Refusal>) -> Result<(), AllocError> {
+    match read {
+        Ok(word) => put_pairs(out, (word >> 8) as u8, (word % 256) as u8),
+        Err(refusal) => put_refusal(out, refusal),
+    }
 }
 
 fn letter(kind: Kind) -> u8 {
@@ -88,7 +102,7 @@ fn put_error(out: &mut Vec<u8>, channel: u8, code: u8) -> Result<(), AllocError>
     put_pair(out, code)
 }
 
-fn put_record(out: &mut Vec<u8>, told: Record) -> Result<(), AllocError> {
+pub fn put_record(out: &mut Vec<u8>, told: Record) -> Result<(), AllocError> {
     match told {
         Record::Cycle {
             channel,
@@ -115,28 +129,43 @@ fn put_told(out: &mut Vec<u8>, answer: Answer) -> Result<(), AllocError> {
     }
 }
 
-fn put_ending(out: &mut Vec<u8>, ending: Ending) -> Result<(), AllocError> {
-    match ending {
-        Ending::Done => put_text(out, b"done "),
-        Ending::Idle => put_text(out, b"idle "),
-        Ending::Waiting => put_text(out, b"waiting "),
-        Ending::Full => put_text(out, b"full "),
+pub fn put_answer(out: &mut Vec<u8>, answer: Result<Answer, Refusal>) -> Result<(), AllocError> {
+    match answer {
+        Ok(answer) => put_told(out, answer),
+        Err(refusal) => put_refusal(out, refusal),
     }
 }
 
-fn put_ran(out: &mut Vec<u8>, told: Ran) -> Result<(), AllocError> {
-    put_ending(out, told.ending)?;
+fn ending_name(ending: Ending) -> &'static str {
+    match ending {
+        Ending::Done => "done",
+        Ending::Idle => "idle",
+        Ending::Waiting => "waiting",
+        Ending::Full => "full",
+    }
+}
+
+fn put_ending(out: &mut Vec<u8>, told: Ran) -> Result<(), AllocError> {
+    put_text(out, ending_name(told.ending).as_bytes())?;
+    put_text(out, b" ")?;
     put_number(out, told.records as usize)
+}
+
+pub fn put_ran(out: &mut Vec<u8>, ran: Result<Ran, Refusal>) -> Result<(), AllocError> {
+    match ran {
+        Ok(told) => put_ending(out, told),
+        Err(refusal) => put_refusal(out, refusal),
+    }
 }
 
 // What a call replies.
 pub fn put_reply(out: &mut Vec<u8>, reply: Reply) -> Result<(), AllocError> {
     match reply {
-        Reply::Byte(byte) => put_pair(out, byte),
-        Reply::Word(word) => put_pairs(out, (word >> 8) as u8, (word % 256) as u8),
-        Reply::Done => put_text(out, b"ok"),
-        Reply::Stepped(answer) => put_told(out, answer),
-        Reply::Ended(told) => put_ran(out, told),
+        Reply::Byte(byte) => put_read_byte(out, Ok(byte)),
+        Reply::Word(word) => put_read_word(out, Ok(word)),
+        Reply::Done => put_done(out, Ok(())),
+        Reply::Stepped(answer) => put_answer(out, Ok(answer)),
+        Reply::Ended(told) => put_ran(out, Ok(told)),
         Reply::Refused(refusal) => put_refusal(out, refusal),
     }
 }
