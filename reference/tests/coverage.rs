@@ -75,6 +75,8 @@ fn the_law_holds() {
     for seed in 1..=48 {
         let law = check_law(&make_sequence(seed, 5_000, ALL));
         assert_eq!(law.breaches, Vec::<String>::new(), "seed {seed}");
+        let operands = law.counts.count(LawRule::Delivered);
+        assert!(operands > 100, "seed {seed}: {operands} operands");
         total.add(&law.counts);
     }
     print!("{}", total.table());
