@@ -229,13 +229,13 @@ pub carried_inv : (last : Bool) (k : ℕ) (h : Held) (done : Bool) (q : Slot) (v
     → length (bytes_told v) ≡ count_of q.word → (q.way ≡ Destination → v ≡ held_first q.word h)
     → InvX (operand_moved last k (held_after q.way v q.word h) done x)
     (cycle_noted (kind_by q.way x.registers.config) (slot_code q x) (slot_address q x) (bytes_told v) x.registers b)
-carried_inv last k h done q v x b p a o e yes-last not_last l d =
+carried_inv last k h done q v x b p a o e yes_last not_last l d =
     let c = x.registers.config in
     let n = x.registers.counters in
     let w = ahead k h q (drop (k + 1) (plan c)) v c n b.gathered o e l d in
     subst (λ (y : Book). InvX (operand_moved last k (held_after q.way v q.word h) done x) y)
     (sym (cycle_moves q.way c (slot_code q x) (slot_address q x) (bytes_told v) x.registers b))
-    (rw (code_same q.side x, address_same q.side q.offset x) (by last yes-last not_last w))
+    (rw (code_same q.side x, address_same q.side q.offset x) (by last yes_last not_last w))
   where
     by : (last : Bool) → (last ≡ true → drop (k + 1) (plan x.registers.config) ≡ [])
         → (last ≡ false → (q' : Slot) × (qs : List Slot) × (drop (k + 1) (plan x.registers.config) ≡ q' ∷ qs))

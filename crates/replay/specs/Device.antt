@@ -4,5 +4,5 @@ use Rattle.replay.specs.declared.device.Device.{Device}
 use Rattle.replay.specs.declared.device.Device.TheVariants.{Tape, Printer}
 
 abbrev pub meaning : {A B : Type 0} → (A → BankMeaning) → (B → BankMeaning) → Device A B → BankMeaning
-meaning of-tape of-printer (Tape tape) = of-tape tape
-meaning of-tape of-printer (Printer printer) = of-printer printer
+meaning of_tape of_printer (Tape tape) = of_tape tape
+meaning of_tape of_printer (Printer printer) = of_printer printer
