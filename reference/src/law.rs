@@ -535,17 +535,19 @@ impl Law {
         self.demand(same_bytes, channel, "an operand wrote other bytes than its source gave");
         let before = &seen.before[channel];
         if !plan.operation.chain.is_chained() && before.transfer_count == 1 && before.continue_block {
-            self.after_continue(channel, plan, before);
+            self.after_continue(channel, plan, seen);
         }
         Progress::Delivered { device_done }
     }
 
     /// The last operand of a block under continue names the next block, from
     /// the base registers.
-    fn after_continue(&mut self, channel: usize, plan: &Plan, before: &Channel) {
+    fn after_continue(&mut self, channel: usize, plan: &Plan, seen: &Sight) {
+        let before = &seen.before[channel];
         if before.base_count == 0 {
             return self.counts.hit(LawRule::NamedNothingByContinue);
         }
+        self.demand(seen.after[channel].status.block, channel, "a continued block without its bit");
         self.name(channel, before.base_count, before.base_address, before.base_code);
         let odd = plan.operation.size.above_byte() && before.base_address % 2 == 1;
         self.counts.hit(if odd { LawRule::NamedByOddContinue } else { LawRule::NamedByContinue });

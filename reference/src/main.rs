@@ -1,6 +1,7 @@
 use std::io::{Read, Write};
 use std::process::ExitCode;
 
+use reference::law::LawRule;
 use reference::make::{make_script, make_sequence, Options};
 use reference::{board, play};
 
@@ -60,7 +61,8 @@ fn run(words: &[&str]) -> std::io::Result<bool> {
                 println!("{breach}");
             }
             print(law.counts.table().as_bytes())?;
-            println!("{} checks, {} breaches", law.checks, law.breaches.len());
+            let operands = law.counts.count(LawRule::Delivered);
+            println!("{operands} operands, {} checks, {} breaches", law.checks, law.breaches.len());
             return Ok(law.breaches.is_empty());
         }
         ["play"] => print(&play::play(&input()?))?,

@@ -11,7 +11,7 @@ use Rattle.dmac.specs.Step.{Machine}
 use Rattle.dmac.specs.Run.{plain_step, turned_by, run_next, run_on, run_told, run_taken}
 use Rattle.audit.specs.Calls.{Call, ReadByte, ReadWord, WriteByte, WriteWord, SetLine, Step, Store, Run, Performed, performed}
 use Rattle.audit.specs.History.{Past, Event, is_recorded, stepped, run_made, called, passed, beginning, outcome}
-use Rattle.audit.specs.Tie.{event_of, Lawful, Goes_on}
+use Rattle.audit.specs.Tie.{event_of, Lawful, GoesOn}
 use Rattle.audit.proofs.Main.{law}
 
 -- One turn of a run, by what its step answers.
@@ -68,7 +68,7 @@ pub all_lawful : (m : MemoryMeaning) (b : BankMeaning) (es : List Event) → Law
 all_lawful m b es front rest e = law m b front
 
 pub goes_on : (c : Call) (places : ℕ) (t : List Record) (before : Machine) (o : Performed) → o ≡ performed c places before t
-    → Goes_on before (event_of c places t) o.machine
+    → GoesOn before (event_of c places t) o.machine
 goes_on c places t before o e m b es q =
     let p = outcome m b es in (
       ap (λ (y : Past). y.machine) (passed_more es (event_of c places t) (beginning m b))

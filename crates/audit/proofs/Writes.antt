@@ -164,7 +164,7 @@ pub and_true : (a : Bool) → (a && true) ≡ false → a ≡ false
 and_true true e = e
 and_true false e = refl
 
--- A register write that is made. `is-locked` says which an active channel bars.
+-- A register write that is made. `is_locked` says which an active channel bars.
 pub write_inv : (r : Register) (v : ℕ) (x : Channel) (b : Book)
     → (is_active x.registers.status && is_locked r (is_chained x.registers.config)) ≡ false
     → InvX x b → InvX (register_written r v x) (register_noted r v x.registers b)

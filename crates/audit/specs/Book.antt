@@ -48,7 +48,7 @@ pub record Delivery : Type 0 where
 
 -- The book:
 --   counted    no write was made to the transfer counter since the latest start that passed its checks
---   start-dar  DAR at that start
+--   start_dar  DAR at that start
 --   entry_at   where the table entry lies that comes next or is being read, in all 32 bits
 --   named, delivered  the two operand lists of that operation
 --   ever       all operands that any operation ever named

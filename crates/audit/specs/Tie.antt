@@ -17,7 +17,7 @@ abbrev pub Lawful : MemoryMeaning → BankMeaning → List Event → Type 0
 Lawful m b es = (front rest : List Event) → es ≡ front ++ rest → LawfulAt m (outcome m b front)
 
 -- Whatever history led to the machine before an event, it goes on with this event to the machine after it, and lawfully.
-abbrev pub Goes_on : Machine → Event → Machine → Type 0
-Goes_on before e after =
+abbrev pub GoesOn : Machine → Event → Machine → Type 0
+GoesOn before e after =
     (m : MemoryMeaning) (b : BankMeaning) (es : List Event) → (outcome m b es).machine ≡ before
     → ((outcome m b (es ++ e ∷ [])).machine ≡ after) × Lawful m b (es ++ e ∷ [])

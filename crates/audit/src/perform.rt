@@ -4,7 +4,7 @@ ghost use Rattle.queue.specs.Queue.{held, capacity_of};
 ghost use Rattle.dmac.specs.Step.{machine_of};
 ghost use Rattle.audit.specs.Calls.{byte_reply, word_reply, done_reply, step_reply, run_reply, performed};
 ghost use Rattle.audit.specs.Law.{Law};
-ghost use Rattle.audit.specs.Tie.{event_of, Goes_on};
+ghost use Rattle.audit.specs.Tie.{event_of, GoesOn};
 
 use crate::call::{Call, Reply};
 use bus::memory::Memory;
@@ -97,7 +97,7 @@ pub fn perform<M: Memory, D: DeviceBank>(
 ) -> Reply
     ensures done { record { machine = machine_of dmac.new (M.Memory.means memory.new) (D.DeviceBank.bank devices.new); trace = held trace.new; reply = result } ≡ performed call (capacity_of trace.old) (machine_of dmac.old (M.Memory.means memory.old) (D.DeviceBank.bank devices.old)) (held trace.old) }
     ensures room { capacity_of trace.new ≡ capacity_of trace.old }
-    ensures history { Goes_on (machine_of dmac.old (M.Memory.means memory.old) (D.DeviceBank.bank devices.old)) (event_of call (capacity_of trace.old) (held trace.old)) (machine_of dmac.new (M.Memory.means memory.new) (D.DeviceBank.bank devices.new)) }
+    ensures history { GoesOn (machine_of dmac.old (M.Memory.means memory.old) (D.DeviceBank.bank devices.old)) (event_of call (capacity_of trace.old) (held trace.old)) (machine_of dmac.new (M.Memory.means memory.new) (D.DeviceBank.bank devices.new)) }
     ensures law { Law }
 {
     carry_out(dmac, memory, devices, trace, call)

@@ -14,7 +14,7 @@ pub fn is_storable<M: Memory>(memory: &M, code: u8, address: u32) -> bool
 
 // Stores one byte for the processor, or is refused and changes nothing.
 pub fn store<M: Memory>(memory: &mut M, code: u8, address: u32, byte: u8) -> Result<(), Refusal>
-    ensures { record { memory = M.Memory.means memory.exit.now; answer = result } ≡ stored code address byte (M.Memory.means memory.entry.now) }
+    ensures { record { memory = M.Memory.means memory.new; answer = result } ≡ stored code address byte (M.Memory.means memory.old) }
 {
     if !is_storable(memory, code, address) {
         return Err(Refusal::NoPlace);

@@ -125,7 +125,7 @@ fn carry<M: Memory, D: DeviceBank>(
     devices: &mut D,
 ) -> Outcome
     requires { progress.cycles < 255 }
-    ensures { record { channel = channel.exit.now; memory = M.Memory.means memory.new; bank = D.DeviceBank.bank devices.new; outcome = result } ≡ slot_carried slot last progress.cycles progress.held progress.done (slot_data slot number progress.held channel.entry.now (M.Memory.means memory.old) (D.DeviceBank.bank devices.old)) number channel.entry.now (M.Memory.means memory.old) (D.DeviceBank.bank devices.old) }
+    ensures { record { channel = channel.new; memory = M.Memory.means memory.new; bank = D.DeviceBank.bank devices.new; outcome = result } ≡ slot_carried slot last progress.cycles progress.held progress.done (slot_data slot number progress.held channel.old (M.Memory.means memory.old) (D.DeviceBank.bank devices.old)) number channel.old (M.Memory.means memory.old) (D.DeviceBank.bank devices.old) }
 {
     let config = channel.registers.config;
     let code = slot.code(channel);
@@ -171,7 +171,7 @@ fn serve_slot<M: Memory, D: DeviceBank>(
     devices: &mut D,
 ) -> Outcome
     requires { progress.cycles < 255 }
-    ensures all { record { channel = channel.exit.now; memory = M.Memory.means memory.new; bank = D.DeviceBank.bank devices.new; outcome = result } ≡ slot_served slot last progress.cycles progress.held progress.done line number channel.entry.now (M.Memory.means memory.old) (D.DeviceBank.bank devices.old) }
+    ensures all { record { channel = channel.new; memory = M.Memory.means memory.new; bank = D.DeviceBank.bank devices.new; outcome = result } ≡ slot_served slot last progress.cycles progress.held progress.done line number channel.old (M.Memory.means memory.old) (D.DeviceBank.bank devices.old) }
     ensures kept { Kept result channel.old (M.Memory.means memory.old) (D.DeviceBank.bank devices.old) channel.new (M.Memory.means memory.new) (D.DeviceBank.bank devices.new) }
 {
     let config = channel.registers.config;
@@ -222,7 +222,7 @@ fn serve_operand<M: Memory, D: DeviceBank>(
     memory: &mut M,
     devices: &mut D,
 ) -> Outcome
-    ensures all { record { channel = channel.exit.now; memory = M.Memory.means memory.new; bank = D.DeviceBank.bank devices.new; outcome = result } ≡ operand_served progress.cycles progress.held progress.done line number channel.entry.now (M.Memory.means memory.old) (D.DeviceBank.bank devices.old) }
+    ensures all { record { channel = channel.new; memory = M.Memory.means memory.new; bank = D.DeviceBank.bank devices.new; outcome = result } ≡ operand_served progress.cycles progress.held progress.done line number channel.old (M.Memory.means memory.old) (D.DeviceBank.bank devices.old) }
     ensures kept { Kept result channel.old (M.Memory.means memory.old) (D.DeviceBank.bank devices.old) channel.new (M.Memory.means memory.new) (D.DeviceBank.bank devices.new) }
 {
     match next_slot(channel.registers.config, progress.cycles) {
@@ -235,7 +235,7 @@ fn serve_operand<M: Memory, D: DeviceBank>(
 
 // The next word of an entry.
 fn serve_entry<M: Memory>(words: Words, number: u8, channel: &mut Channel, memory: &M) -> Outcome
-    ensures all { (b : BankMeaning) → record { channel = channel.exit.now; memory = M.Memory.means memory.now; bank = b; outcome = result } ≡ entry_served words number channel.entry.now (M.Memory.means memory.now) b }
+    ensures all { (b : BankMeaning) → record { channel = channel.new; memory = M.Memory.means memory.now; bank = b; outcome = result } ≡ entry_served words number channel.old (M.Memory.means memory.now) b }
     ensures kept { (m : MemoryMeaning) (b : BankMeaning) → Kept result channel.old m b channel.new m b }
 {
     let code = channel.registers.table.bfc;
@@ -276,7 +276,7 @@ pub fn serve<M: Memory, D: DeviceBank>(
     devices: &mut D,
     line: bool,
 ) -> Outcome
-    ensures all { record { channel = channel.exit.now; memory = M.Memory.means memory.new; bank = D.DeviceBank.bank devices.new; outcome = result } ≡ served line number channel.entry.now (M.Memory.means memory.old) (D.DeviceBank.bank devices.old) }
+    ensures all { record { channel = channel.new; memory = M.Memory.means memory.new; bank = D.DeviceBank.bank devices.new; outcome = result } ≡ served line number channel.old (M.Memory.means memory.old) (D.DeviceBank.bank devices.old) }
     ensures kept { Kept result channel.old (M.Memory.means memory.old) (D.DeviceBank.bank devices.old) channel.new (M.Memory.means memory.new) (D.DeviceBank.bank devices.new) }
 {
     match channel.phase {

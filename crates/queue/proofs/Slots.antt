@@ -12,9 +12,9 @@ length_from_head head xs = simp (length-append, length-drop, length-take) (omega
 pub length_held : {T : Type 0} (q : Queue T) → length (held q) ≡ min q.len (capacity_of q)
 length_held q = simp (length-take, length_from_head)
 
-pub getD_from_head : {T : Type 0} (head : ℕ) (xs : List T) (k : ℕ) (d : T) → k < length xs →
+pub get_or_from_head : {T : Type 0} (head : ℕ) (xs : List T) (k : ℕ) (d : T) → k < length xs →
     get_or (from_head head xs) k d ≡ get_or xs (slot_of head k (length xs)) d
-getD_from_head head xs k d h = grind (arith, places, nat_tests)
+get_or_from_head head xs k d h = grind (arith, places, nat_tests)
 
 set_from_head : {T : Type 0} (head : ℕ) (xs : List T) (k : ℕ) (x : T) → k < length xs →
     from_head head (set xs (slot_of head k (length xs)) x) ≡ set (from_head head xs) k x
