@@ -1,4 +1,5 @@
--- What a script prints of the replies to its calls.
+-- What a script prints of the replies to its calls. The functions inside monitor are stated by this page; what is promised
+-- of a script is on the page Monitor and doesn't rest on it.
 use Rattle.std.specs.Prelude.{ℕ, List, [], ◌++◌}
 use Rattle.cycle.specs.declared.record.Record.{Record}
 use Rattle.devices.specs.Bank.{nothing}
