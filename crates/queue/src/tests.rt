@@ -45,6 +45,10 @@ fn bytes_wrap_round(rt: HostRuntime) {
     assert!(rt; wraps(&mut queue, &[10, 11, 12, 13], &[14, 15, 16], &mut to));
     assert_eq!(rt; to, [10, 11]);
     assert_eq!(rt; shown(&queue), [Some(12), Some(14), Some(15), None]);
+    let (first, rest) = queue.as_slices();
+    assert_eq!(rt; first, [12].as_slice());
+    assert_eq!(rt; rest, [14, 15].as_slice());
+    assert!(rt; queue.iter().eq(&[12, 14, 15]));
 }
 
 #[test]
