@@ -1,5 +1,5 @@
 // The queue and what it can do.
-ghost use Rattle.std.specs.Prelude.{◌≡◌, ◌+◌, ◌<◌, ◌≤◌, min, false, not, [], ◌∷◌, ◌++◌, length, take, drop, if◌then◌else◌, ◌==◌, nat_lt};
+ghost use Rattle.std.specs.Prelude.{◌≡◌, ◌+◌, ◌-◌, ◌<◌, ◌≤◌, min, false, not, [], ◌∷◌, ◌++◌, length, take, drop, if◌then◌else◌, ◌==◌, nat_lt};
 
 use crate::iter::Iter;
 
@@ -42,6 +42,13 @@ impl<'a, T: Copy> Queue<'a, T> {
         ensures { result ≡ capacity_of self.now }
     {
         self.slots.len()
+    }
+
+    // How many more elements it can take.
+    pub fn room(&self) -> usize
+        ensures { result ≡ capacity_of self.now - length (held self.now) }
+    {
+        self.capacity() - self.len()
     }
 
     // Whether it has no room for one more.

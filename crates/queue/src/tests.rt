@@ -89,8 +89,10 @@ fn full_and_empty(rt: HostRuntime) {
     let mut queue = Queue::new(&mut slots);
     push_all(&mut queue, &[1, 2]);
     assert!(rt; queue.is_full() && !queue.is_empty() && queue.len() == 2);
+    assert_eq!(rt; queue.room(), 0);
     queue.clear();
     assert!(rt; queue.is_empty() && !queue.is_full() && queue.capacity() == 2);
+    assert_eq!(rt; queue.room(), 2);
 }
 
 #[test]
