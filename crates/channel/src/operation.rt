@@ -156,7 +156,7 @@ impl Channel {
 fn long_of(high: u16, low: u16) -> u32
     ensures { result ≡ long_of high low }
 {
-    u32::from(high) * 65536 + u32::from(low)
+    (u32::from(high) << 16) | u32::from(low)
 }
 
 fn more(word: u16, words: Words) -> Words
