@@ -7,6 +7,7 @@ ghost use Rattle.dmac.specs.Line.{line_changed};
 use crate::answer::Answer;
 use crate::controller::Dmac;
 use bus::memory::Memory;
+use channel::state::Channel;
 use choice::choose;
 use cycle::record::Record;
 use cycle::serve::{Outcome, bus_fault, is_entry_misplaced, serve};
@@ -49,39 +50,20 @@ impl Dmac {
         ensures value { result ≡ inside_of self.now }
         ensures within { IfSome result (λ c. c < 4) }
     {
-        if self.channels[0].is_inside() {
-            Some(0)
-        } else if self.channels[1].is_inside() {
-            Some(1)
-        } else if self.channels[2].is_inside() {
-            Some(2)
-        } else if self.channels[3].is_inside() {
-            Some(3)
-        } else {
-            None
-        }
+        let channel = self.channels.iter().position(Channel::is_inside)?;
+        Some(channel as u8)
     }
 
     fn counting(&self) -> [bool; 4]
         ensures { result ≡ counting_of self.now }
     {
-        [
-            self.channels[0].is_counting(),
-            self.channels[1].is_counting(),
-            self.channels[2].is_counting(),
-            self.channels[3].is_counting(),
-        ]
+        self.channels.map(|channel| channel.is_counting())
     }
 
     fn priorities(&self) -> [u8; 4]
         ensures { result ≡ priorities_of self.now }
     {
-        [
-            self.channels[0].registers.vectors.cpr,
-            self.channels[1].registers.vectors.cpr,
-            self.channels[2].registers.vectors.cpr,
-            self.channels[3].registers.vectors.cpr,
-        ]
+        self.channels.map(|channel| channel.registers.vectors.cpr)
     }
 
     // The channel that the next cycle is for.
