@@ -1,8 +1,7 @@
 -- The first of four channels that is inside an operand or entry.
-use Rattle.std.proofs.Common.{◌≡◌, ℕ, ◌+◌, Bool, true, false, not, cond, ltb, List, [], ◌∷◌, length, Some, None, Option, refl, arith}
+use Rattle.std.proofs.Common.{◌≡◌, ℕ, ◌+◌, Bool, true, false, not, cond, ltb, List, [], ◌∷◌, length, Some, None, refl, arith}
 use Rattle.std.specs.List.{position_or_len}
 use Rattle.channel.specs.Requests.{is_inside}
-use Rattle.dmac.specs.Controller.{Dmac}
 use Rattle.dmac.specs.Choice.{inside_of}
 use Rattle.channel.specs.declared.state.Channel.{Channel}
 
