@@ -5,8 +5,8 @@ ghost use Rattle.channel.specs.State.{new_channel, channel_failed, channel_reset
 use registers::fault::Fault;
 use registers::groups::{Config, Registers};
 
-// The words of a table entry that were read so far. (A list in fixed memory that can be copied: an array would need a
-// length beside it, and words that mean nothing behind that.)
+// The words of a table entry that were read so far.
+// Not an array: that would need a length beside it, and would hold words that mean nothing.
 #[derive(Clone, Copy, PartialEq, Eq, Debug)]
 pub enum Words {
     NoWord,
@@ -16,7 +16,8 @@ pub enum Words {
     FourWords(u16, u16, u16, u16),
 }
 
-// The bytes of an operand that were read and are not yet written. (A list in fixed memory, as Words is.)
+// The bytes of an operand that were read and are not yet written.
+// Not an array: that would need a length beside it, and would hold bytes that mean nothing.
 #[derive(Clone, Copy, PartialEq, Eq, Debug)]
 pub enum Held {
     NoByte,

@@ -1,5 +1,5 @@
-// The fields of the configuration registers: each is read by its mask and shift once, and is a kind from there on. A
-// field's value that means nothing is None.
+// The fields of the configuration registers. Each is read by its mask and shift once, as a kind; a value that means
+// nothing is None.
 ghost use Rattle.std.specs.Prelude.{◌≡◌};
 ghost use Rattle.registers.specs.Bits.{odd};
 ghost use Rattle.registers.specs.Config.{mode_of, device_type_of, is_port16, size_given, chain_given, requests_of, counting_of, mac, dac, is_single, is_chained, is_array, is_burst, is_inward, is_device_memory, size_of, chain_of, bytes_of, moved_as, next_mar, stride, next_dar, is_misplaced, is_field_unused, is_single_unfit, is_dual_unfit, is_unusable};
