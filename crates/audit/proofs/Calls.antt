@@ -22,7 +22,7 @@ use Rattle.dmac.specs.Controller.{new_controller, channel_at}
 use Rattle.dmac.specs.Access.{register_of, register_after, reach_of, reach_after, is_nowhere, is_general, is_control, is_no_word, starts_by_word, word_refusal, refused, accepted, taken_in, word_taken_in, word_written_by}
 use Rattle.dmac.specs.Choice.{chosen}
 use Rattle.dmac.specs.Step.{Machine, called as step_ok, step_reset, step_chosen, is_exception}
-use Rattle.audit.specs.Calls.{Call, ReadByte, ReadWord, WriteByte, WriteWord, SetLine, Step, Store, Called, done_reply, step_reply, with_dmac, byte_write_called, word_write_called, line_called, step_called, store_called}
+use Rattle.audit.specs.Calls.{Call, ReadByte, ReadWord, WriteByte, WriteWord, SetLine, Step, Store, Called, Stepped, done_replied, replied, with_dmac, byte_write_called, word_write_called, line_called, step_called, store_called}
 use Rattle.audit.specs.Book.{Book, half_noted, is_done, step_noted, call_noted, settled_before, book_fed}
 use Rattle.audit.specs.History.{Past, beginning, registers_of, noted}
 use Rattle.audit.proofs.Basics.{no, at_set_alone}
@@ -81,7 +81,7 @@ byte_goes : (o v : ℕ) (s : Machine) (B : ℕ → Book) → Kept s B
 byte_goes o v s B g = go (is_nowhere (register_of o))
   where
     go : (t : Bool) → Kept (with_dmac (cond t (refused NoRegister s.dmac) (accepted (taken_in (o / 64) Nowhere 0 (reach_of o s.dmac) v s.dmac))).state s)
-        (λ n. cond (is_done (done_reply (cond t (refused NoRegister s.dmac) (accepted (taken_in (o / 64) Nowhere 0 (reach_of o s.dmac) v s.dmac))).answer) && eqb (o / 64) n) (half_noted (register_of o) v (registers_of n s) (B n)) (B n))
+        (λ n. cond (is_done (done_replied (cond t (refused NoRegister s.dmac) (accepted (taken_in (o / 64) Nowhere 0 (reach_of o s.dmac) v s.dmac))).answer) && eqb (o / 64) n) (half_noted (register_of o) v (registers_of n s) (B n)) (B n))
     go true = record { four = g.four; each = g.each }
     go false =
         taken_goes (o / 64) Nowhere (reach_of o s.dmac) 0 v (λ r b. half_noted (register_of o) v r b) s B g
@@ -119,7 +119,7 @@ word_goes o v s B g = go (word_refusal o (starts_by_word o v)) refl
   where
     go : (f : Option Refusal) → word_refusal o (starts_by_word o v) ≡ f
         → Kept (with_dmac (word_written_by f o v s.dmac).state s)
-        (λ n. cond (is_done (done_reply (word_written_by f o v s.dmac).answer) && eqb (o / 64) n) (half_noted (register_after o) (v % 256) (registers_of n s) (half_noted (register_of o) (v / 256) (registers_of n s) (B n))) (B n))
+        (λ n. cond (is_done (done_replied (word_written_by f o v s.dmac).answer) && eqb (o / 64) n) (half_noted (register_after o) (v % 256) (registers_of n s) (half_noted (register_of o) (v / 256) (registers_of n s) (B n))) (B n))
     go (Some f) e = record { four = g.four; each = g.each }
     go None e =
         let p = passes (check (is_no_word o) NoRegister ∷ check (odd o) OddWord ∷ check (starts_by_word o v) StartByWord ∷ []) e in
@@ -143,7 +143,7 @@ step_goes : (code : ℕ) (done : Bool) (s : Machine) (B : ℕ → Book) → Kept
 step_goes code done s B g = go (is_exception code) (eqb code 0)
   where
     go : (t u : Bool) → Kept (cond t (cond u (step_ok (step_reset s)) (step_ok (step_chosen (chosen s.dmac) code done s))) (record { machine = s; answer = Err NoException })).machine
-        (λ n. step_noted (step_reply (cond t (cond u (step_ok (step_reset s)) (step_ok (step_chosen (chosen s.dmac) code done s))) (record { machine = s; answer = Err NoException })).answer) n (registers_of n s) (B n))
+        (λ n. step_noted (replied Stepped (cond t (cond u (step_ok (step_reset s)) (step_ok (step_chosen (chosen s.dmac) code done s))) (record { machine = s; answer = Err NoException })).answer) n (registers_of n s) (B n))
     go true true = reset_goes s B g
     go true false = chosen_goes (chosen s.dmac) code done s B refl g
     go false u = record { four = g.four; each = g.each }

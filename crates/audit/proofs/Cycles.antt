@@ -24,7 +24,7 @@ use Rattle.dmac.specs.declared.answer.Answer.TheVariants.{Reset, Idle, Halted, R
 use Rattle.dmac.specs.Controller.{channel_at}
 use Rattle.dmac.specs.Choice.{chosen}
 use Rattle.dmac.specs.Step.{Machine, Stepped as StepDone, called as step_ok, step_made, step_chosen, step_on, step_reset, is_exception}
-use Rattle.audit.specs.Calls.{step_reply, step_called}
+use Rattle.audit.specs.Calls.{Stepped, replied, step_called}
 use Rattle.audit.specs.Book.{Book, bytes_told, places_read, places_written}
 use Rattle.audit.specs.Truth.{Carried, CycleTrue, AnswerTrue, ReplyTrue, device_bytes}
 use Rattle.audit.proofs.Plan.{runs}
@@ -159,7 +159,7 @@ chosen_true (Some n) code done s B e g = outcome_true s B n (step_on n code done
 pub step_true : (code : ℕ) (done : Bool) (s : Machine) (B : ℕ → Book) → Kept s B → ReplyTrue (step_called code done s).reply s (step_called code done s).machine
 step_true code done s B g = go (is_exception code) (eqb code 0)
   where
-    go : (t u : Bool) → ReplyTrue (step_reply (cond t (cond u (step_ok (step_reset s)) (step_ok (step_chosen (chosen s.dmac) code done s))) (record { machine = s; answer = Err NoException })).answer) s
+    go : (t u : Bool) → ReplyTrue (replied Stepped (cond t (cond u (step_ok (step_reset s)) (step_ok (step_chosen (chosen s.dmac) code done s))) (record { machine = s; answer = Err NoException })).answer) s
         (cond t (cond u (step_ok (step_reset s)) (step_ok (step_chosen (chosen s.dmac) code done s))) (record { machine = s; answer = Err NoException })).machine
     go true true = tt
     go true false = chosen_true (chosen s.dmac) code done s B refl g

@@ -1,5 +1,6 @@
 -- An error is confined to its channel, which after a bus error stands at the operand or the entry.
-use Rattle.std.proofs.Common.{◌≡◌, ℕ, zero, suc, ◌+◌, ◌<◌, Bool, true, false, cond, eqb, ◌⊎◌, length, Some, None, Err, Option, sym, refl, ap, ◌∙◌, subst, inl, inr, ⊎_elim, add-one, arith, length-append, get_or-set_other, get_or-set_same}
+use Rattle.std.proofs.Common.{◌≡◌, ℕ, zero, suc, ◌+◌, ◌<◌, Bool, true, false, cond, eqb, ◌⊎◌, length, Some, None, Ok, Err, Option, Result, sym, refl, ap, ◌∙◌, subst, inl, inr, ⊎_elim, add-one, arith, length-append, get_or-set_other, get_or-set_same}
+use Rattle.refusal.specs.declared.kinds.Refusal.{Refusal}
 use Rattle.refusal.specs.declared.kinds.Refusal.TheVariants.{NoException}
 use Rattle.registers.specs.Config.{next_mar, next_dar}
 use Rattle.registers.specs.Status.{is_active}
@@ -14,7 +15,7 @@ use Rattle.dmac.specs.Controller.{channel_at}
 use Rattle.dmac.specs.Choice.{chosen}
 use Rattle.dmac.specs.Step.{Machine, Stepped as StepDone, called as step_ok, step_failed, step_chosen, step_on, step_reset, is_exception}
 use Rattle.audit.specs.Operand.{operand, operands}
-use Rattle.audit.specs.Calls.{Step, Stepped, step_reply, step_called}
+use Rattle.audit.specs.Calls.{Step, Reply, Stepped, replied, step_called}
 use Rattle.audit.specs.Book.{Book, answer_noted, settled_before, book_fed}
 use Rattle.audit.specs.History.{Past, registers_of, stepped, noted}
 use Rattle.audit.specs.Law.{Stands, TouchesOnly, word_addresses}
@@ -110,19 +111,19 @@ chosen_struck : (h : Option ℕ) (code : ℕ) (done : Bool) (s : Machine) (B : �
 chosen_struck None code done s B n f q g e = let z : ◌≡◌ {A = ℕ} 0 1 = cc in absurd (omega arith)
 chosen_struck (Some d) code done s B n f q g e = outcome_struck s B d (step_on d code done s) n f g (serves s B d g q) (step_is d code done s) e
 
-stepped_is : (a b : Answer) → Stepped a ≡ Stepped b → a ≡ b
+stepped_is : (a b : Answer) → ◌≡◌ {A = Result Reply Refusal} (Ok (Stepped a)) (Ok (Stepped b)) → a ≡ b
 stepped_is a b e = cc
 
 pub errors_touch : (code : ℕ) (done : Bool) (n : ℕ) (f : Fault) (p : Past) → Kept p.machine p.books
-    → (step_called code done p.machine).reply ≡ Stepped (Recorded (Error n f)) → TouchesOnly n f p (stepped code done p)
+    → (step_called code done p.machine).reply ≡ Ok (Stepped (Recorded (Error n f))) → TouchesOnly n f p (stepped code done p)
 unfolding book_fed
 errors_touch code done n f p g e = go (is_exception code) (eqb code 0) e
   where
     go : (t u : Bool)
-        → step_reply (cond t (cond u (step_ok (step_reset p.machine)) (step_ok (step_chosen (chosen p.machine.dmac) code done p.machine))) (record { machine = p.machine; answer = Err NoException })).answer ≡ Stepped (Recorded (Error n f))
+        → replied Stepped (cond t (cond u (step_ok (step_reset p.machine)) (step_ok (step_chosen (chosen p.machine.dmac) code done p.machine))) (record { machine = p.machine; answer = Err NoException })).answer ≡ Ok (Stepped (Recorded (Error n f)))
         → TouchesOnly n f p (noted (Step code done) (record {
           machine = (cond t (cond u (step_ok (step_reset p.machine)) (step_ok (step_chosen (chosen p.machine.dmac) code done p.machine))) (record { machine = p.machine; answer = Err NoException })).machine;
-          reply = step_reply (cond t (cond u (step_ok (step_reset p.machine)) (step_ok (step_chosen (chosen p.machine.dmac) code done p.machine))) (record { machine = p.machine; answer = Err NoException })).answer;
+          reply = replied Stepped (cond t (cond u (step_ok (step_reset p.machine)) (step_ok (step_chosen (chosen p.machine.dmac) code done p.machine))) (record { machine = p.machine; answer = Err NoException })).answer;
         }) p)
     go false u q = let z : ◌≡◌ {A = ℕ} 0 1 = cc in absurd (omega arith)
     go true true q = let z : ◌≡◌ {A = ℕ} 0 1 = cc in absurd (omega arith)

@@ -1,5 +1,6 @@
 -- The list of all operands that were ever named only grows.
-use Rattle.std.proofs.Common.{◌≡◌, ℕ, zero, suc, ◌-◌, ◌/◌, ◌%◌, Bool, true, false, cond, ◌&&◌, eqb, List, [], ◌∷◌, ◌++◌, length, Some, None, Option, sym, refl, ap, ◌∙◌, append_assoc, append-nil}
+use Rattle.std.proofs.Common.{◌≡◌, ℕ, zero, suc, ◌-◌, ◌/◌, ◌%◌, Bool, true, false, cond, ◌&&◌, eqb, List, [], ◌∷◌, ◌++◌, length, Some, None, Ok, Err, Option, Result, sym, refl, ap, ◌∙◌, append_assoc, append-nil}
+use Rattle.refusal.specs.declared.kinds.Refusal.{Refusal}
 use Rattle.registers.specs.Bits.{any}
 use Rattle.registers.specs.Config.{chain_of, size_of, bytes_of}
 use Rattle.registers.specs.Control.{is_continuing}
@@ -21,7 +22,7 @@ use Rattle.dmac.specs.declared.answer.Answer.{Answer}
 use Rattle.dmac.specs.declared.answer.Answer.TheVariants.{Reset, Idle, Halted, Retry, Waiting, Recorded}
 use Rattle.dmac.specs.Access.{register_of, register_after}
 use Rattle.audit.specs.Operand.{Operand}
-use Rattle.audit.specs.Calls.{Call, ReadByte, ReadWord, WriteByte, WriteWord, SetLine, Step, Store, Run, Reply, Byte, Word, Done, Stepped, Ended, Refused}
+use Rattle.audit.specs.Calls.{Call, ReadByte, ReadWord, WriteByte, WriteWord, SetLine, Step, Store, Run, Reply, Byte, Word, Done, Stepped, Ended}
 use Rattle.audit.specs.Book.{Book, Gathered, nothing_gathered, with_gathered, recounted, start_noted, control_noted, register_noted, half_noted, block_named, gathered_more, operand_added, block_continued, delivery_noted, operand_noted, move_noted, entry_noted, cycle_noted, word_told, word_noted, words_of_entry, entry_address, entry_count, next_entry, with_entry, bytes_told, record_noted, answer_noted, step_noted, is_done, call_noted, settled_before, book_fed}
 
 abbrev pub Grows : Book → Book → Type 0
@@ -129,15 +130,15 @@ answer_grows Halted n r b = still b
 answer_grows Retry n r b = still b
 answer_grows Waiting n r b = still b
 
-step_grows : (x : Reply) (n : ℕ) (r : Registers) (b : Book) → Grows b (step_noted x n r b)
-step_grows (Stepped x) n r b = answer_grows x n r b
-step_grows (Byte v) n r b = still b
-step_grows (Word v) n r b = still b
-step_grows Done n r b = still b
-step_grows (Ended x) n r b = still b
-step_grows (Refused x) n r b = still b
+step_grows : (x : Result Reply Refusal) (n : ℕ) (r : Registers) (b : Book) → Grows b (step_noted x n r b)
+step_grows (Ok (Stepped x)) n r b = answer_grows x n r b
+step_grows (Ok (Byte v)) n r b = still b
+step_grows (Ok (Word v)) n r b = still b
+step_grows (Ok Done) n r b = still b
+step_grows (Ok (Ended x)) n r b = still b
+step_grows (Err x) n r b = still b
 
-call_grows : (c : Call) (x : Reply) (n : ℕ) (r : Registers) (b : Book) → Grows b (call_noted c x n r b)
+call_grows : (c : Call) (x : Result Reply Refusal) (n : ℕ) (r : Registers) (b : Book) → Grows b (call_noted c x n r b)
 call_grows (ReadByte o) x n r b = still b
 call_grows (ReadWord o) x n r b = still b
 call_grows (WriteByte o v) x n r b = either (is_done x && eqb (o / 64) n) b (half_noted (register_of o) v r b) b (half_grows (register_of o) v r b) (still b)
@@ -151,7 +152,7 @@ call_grows (Store f a v) x n r b = still b
 call_grows (Run k) x n r b = still b
 
 -- What was named before a call is named after it.
-pub book_grows : (c : Call) (x : Reply) (n : ℕ) (r : Registers) (b : Book) → Grows b (book_fed c x n r b)
+pub book_grows : (c : Call) (x : Result Reply Refusal) (n : ℕ) (r : Registers) (b : Book) → Grows b (book_fed c x n r b)
 unfolding book_fed
 book_grows c x n r b =
     twice b (settled_before r b) (call_noted c x n r (settled_before r b))

@@ -1,5 +1,6 @@
 -- Memory changes only at the destination of an operand that was named, or at a store's place.
-use Rattle.std.proofs.Common.{◌≡◌, ℕ, suc, ◌+◌, ◌<◌, Bool, true, false, cond, ◌&&◌, eqb, ◌⊎◌, List, [], ◌∷◌, ◌++◌, length, drop, Some, None, Ok, Err, Option, sym, refl, ap, ◌∙◌, subst, inl, inr, ⊎_elim, arith}
+use Rattle.std.proofs.Common.{◌≡◌, ℕ, suc, ◌+◌, ◌<◌, Bool, true, false, cond, ◌&&◌, eqb, ◌⊎◌, List, [], ◌∷◌, ◌++◌, length, drop, Some, None, Ok, Err, Option, Result, sym, refl, ap, ◌∙◌, subst, inl, inr, ⊎_elim, arith}
+use Rattle.refusal.specs.declared.kinds.Refusal.{Refusal}
 use Rattle.refusal.specs.declared.kinds.Refusal.TheVariants.{NoPlace, NoException}
 use Rattle.std.proofs.lemmas.Bool.{and_parts, eqb-true}
 use Rattle.registers.specs.Config.{is_single, is_inward, is_device_memory}
@@ -24,7 +25,7 @@ use Rattle.dmac.specs.Controller.{channel_at}
 use Rattle.dmac.specs.Choice.{chosen}
 use Rattle.dmac.specs.Step.{Machine, Stepped as StepDone, called as step_ok, step_chosen, step_on, step_reset, is_exception}
 use Rattle.audit.specs.Operand.{Place, in_memory, in_device, bare_device, Move, Operand, paired, operand, operands}
-use Rattle.audit.specs.Calls.{Call, ReadByte, ReadWord, WriteByte, WriteWord, SetLine, Step, Store, Run, Reply, Called, done_reply, store_called, step_called}
+use Rattle.audit.specs.Calls.{Call, ReadByte, ReadWord, WriteByte, WriteWord, SetLine, Step, Store, Run, Reply, Called, done_replied, store_called, step_called}
 use Rattle.audit.specs.Book.{Book, bytes_told, bytes_from, places_written, is_done, settled_before, nothing_gathered}
 use Rattle.audit.specs.History.{Past, StoredAt, stores_noted, noted, stepped, registers_of}
 use Rattle.audit.specs.Law.{SomeOf, IsByte, IsDestination, IsMeant}
@@ -41,7 +42,7 @@ use Rattle.audit.proofs.Cycles.{moving, moving_slot, sent_below}
 use Rattle.audit.proofs.Grows.{book_grows}
 
 -- What was meant stays meant.
-stores_stay : (P : StoredAt → Type 0) (c : Call) (x : Reply) (l : List StoredAt) → SomeOf P l → SomeOf P (stores_noted c x l)
+stores_stay : (P : StoredAt → Type 0) (c : Call) (x : Result Reply Refusal) (l : List StoredAt) → SomeOf P l → SomeOf P (stores_noted c x l)
 stores_stay P (Store f a v) x l h = go (is_done x)
   where
     go : (t : Bool) → SomeOf P (cond t (l ++ record { code = f; address = a } ∷ []) l)
@@ -236,7 +237,7 @@ store_bytes f a v m p e i b = go (is_storable f a p.machine.memory)
     go : (t : Bool)
         → ((cond {A = Stored} t (record { memory = byte_set f a v p.machine.memory; answer = Ok tt }) (record { memory = p.machine.memory; answer = Err NoPlace })).memory.byte i b ≡ p.machine.memory.byte i b)
         ⊎ (((n : ℕ) × (n < 4) × SomeOf (IsDestination m i b) ((noted (Store f a v) (store_called f a v p.machine) p).books n).ever)
-        ⊎ SomeOf (λ w. (m.space w.code ≡ i) × (w.address ≡ b)) (cond (is_done (done_reply (cond {A = Stored} t (record { memory = byte_set f a v p.machine.memory; answer = Ok tt }) (record { memory = p.machine.memory; answer = Err NoPlace })).answer)) (p.stores ++ record { code = f; address = a } ∷ []) p.stores))
+        ⊎ SomeOf (λ w. (m.space w.code ≡ i) × (w.address ≡ b)) (cond (is_done (done_replied (cond {A = Stored} t (record { memory = byte_set f a v p.machine.memory; answer = Ok tt }) (record { memory = p.machine.memory; answer = Err NoPlace })).answer)) (p.stores ++ record { code = f; address = a } ∷ []) p.stores))
     go false = inl refl
     go true =
         ⊎_elim (λ z. inl z) (λ z. inr (inr (some_right _ p.stores _ (inl (sym (ap (λ (g : ℕ → ℕ). g f) e) ∙ z.0, z.1))))) (set_changes f a v p.machine.memory i b)
