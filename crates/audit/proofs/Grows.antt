@@ -23,7 +23,7 @@ use Rattle.dmac.specs.declared.answer.Answer.TheVariants.{Reset, Idle, Halted, R
 use Rattle.dmac.specs.Access.{register_of, register_after}
 use Rattle.audit.specs.Operand.{Operand}
 use Rattle.audit.specs.Calls.{Call, ReadByte, ReadWord, WriteByte, WriteWord, SetLine, Step, Store, Run, Reply, Byte, Word, Done, Stepped, Ended}
-use Rattle.audit.specs.Book.{Book, Gathered, nothing_gathered, with_gathered, recounted, start_noted, control_noted, register_noted, half_noted, block_named, gathered_more, operand_added, block_continued, delivery_noted, operand_noted, move_noted, entry_noted, cycle_noted, word_told, word_noted, words_of_entry, entry_address, entry_count, next_entry, with_entry, bytes_told, record_noted, answer_noted, step_noted, is_done, call_noted, settled_before, book_fed}
+use Rattle.audit.specs.Book.{Book, nothing_gathered, with_gathered, recounted, start_noted, control_noted, register_noted, half_noted, block_named, gathered_more, operand_added, block_continued, delivery_noted, operand_noted, move_noted, entry_noted, cycle_noted, word_told, word_noted, words_of_entry, entry_address, entry_count, next_entry, with_entry, bytes_told, record_noted, answer_noted, step_noted, is_done, call_noted, settled_before, book_fed}
 
 abbrev pub Grows : Book → Book → Type 0
 Grows b b' = (more : List Operand) × (b'.ever ≡ b.ever ++ more)
@@ -46,12 +46,9 @@ control_grows : (v : ℕ) (r : Registers) (b : Book) → Grows b (control_noted 
 control_grows v r b =
     either (any 0x10 v) b b _ (still b) (either (any 0x80 v) b (start_noted (start_fault (any 0x40 v) r) r b) b (start_grows (start_fault (any 0x40 v) r) r b) (still b))
 
-recount_grows : (b : Book) → Grows b (recounted b)
-recount_grows b = ([], sym (append-nil b.ever))
-
 register_grows : (x : Register) (v : ℕ) (r : Registers) (b : Book) → Grows b (register_noted x v r b)
 register_grows Ccr v r b = control_grows v r b
-register_grows (Mtc k) v r b = either (is_active r.status) b b (recounted b) (still b) (recount_grows b)
+register_grows (Mtc k) v r b = either (is_active r.status) b b (recounted b) (still b) (still b)
 register_grows Csr v r b = still b
 register_grows Cer v r b = still b
 register_grows Dcr v r b = still b
@@ -87,7 +84,7 @@ continue_grows zero Linked t r b = still b
 
 added_grows : (r : Registers) (b : Book) → Grows b (operand_added r b)
 unfolding operand_added
-added_grows r b = ([], sym (append-nil b.ever))
+added_grows r b = still b
 
 delivery_grows : (t : Bool) (r : Registers) (b : Book) → Grows b (delivery_noted t r b)
 delivery_grows false r b = still b
@@ -95,18 +92,15 @@ delivery_grows true r b =
     twice b (operand_added r b) (delivery_noted true r b) (added_grows r b)
     (continue_grows (r.counters.mtc - 1) (chain_of r.config) (is_continuing r.control) r (operand_added r b))
 
-gathered_grows : (g : Gathered) (b : Book) → Grows b (with_gathered g b)
-gathered_grows g b = ([], sym (append-nil b.ever))
-
 move_grows : (k : Kind) (f a : ℕ) (vs : List ℕ) (r : Registers) (b : Book) → Grows b (move_noted k f a vs r b)
 move_grows k f a vs r b =
     let c = with_gathered (gathered_more k f a vs r.config b.gathered) b in
-    twice b c (operand_noted r c) (gathered_grows (gathered_more k f a vs r.config b.gathered) b)
+    twice b c (operand_noted r c) (still b)
     (delivery_grows (eqb (length c.gathered.tos) (bytes_of (size_of r.config))) r c)
 
 entry_grows : (t : Bool) (k : Chain) (ws : List ℕ) (a : ℕ) (r : Registers) (b : Book) → Grows b (entry_noted t k ws a r b)
 entry_grows true k ws a r b = block_grows r.counters.mfc (entry_address ws) (entry_count ws) r (with_entry (next_entry k ws b.entry_at) b)
-entry_grows false k ws a r b = ([], sym (append-nil b.ever))
+entry_grows false k ws a r b = still b
 
 word_grows : (a : ℕ) (vs : List ℕ) (r : Registers) (b : Book) → Grows b (word_noted a vs r b)
 word_grows a vs r b =
@@ -156,5 +150,5 @@ pub book_grows : (c : Call) (x : Result Reply Refusal) (n : ℕ) (r : Registers)
 unfolding book_fed
 book_grows c x n r b =
     twice b (settled_before r b) (call_noted c x n r (settled_before r b))
-    (either (is_active r.status) b b (with_gathered nothing_gathered b) (still b) (gathered_grows nothing_gathered b))
+    (either (is_active r.status) b b (with_gathered nothing_gathered b) (still b) (still b))
     (call_grows c x n r (settled_before r b))
