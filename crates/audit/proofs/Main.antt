@@ -1,7 +1,7 @@
 -- The law.
-use Rattle.std.proofs.Common.{◌≡◌, ℕ, zero, suc, Bool, true, false, cond, ◌⊎◌, List, [], ◌∷◌, Some, None, Option, refl, ap, ◌∙◌, inl, inr}
+use Rattle.std.proofs.Common.{◌≡◌, ℕ, zero, suc, Bool, false, ◌⊎◌, List, [], ◌∷◌, Some, None, Option, refl, ap, ◌∙◌, inl, inr}
 use Rattle.std.proofs.lemmas.Bool.{cond_both}
-use Rattle.bus.specs.Memory.{MemoryMeaning, byte_set, is_word_writable, low_address}
+use Rattle.bus.specs.Memory.{MemoryMeaning, is_word_writable}
 use Rattle.bus.specs.Store.{Stored, is_storable}
 use Rattle.cycle.specs.declared.carry.End.{End}
 use Rattle.cycle.specs.declared.carry.End.TheVariants.{InMemory, InDevice, InChannel}
@@ -26,16 +26,8 @@ use Rattle.audit.proofs.Errors.{errors_touch}
 
 -- The space numbers never change.
 data_space : (v : Data) (f a : ℕ) (m : MemoryMeaning) → (data_written v f a m).space ≡ m.space
-data_space (ByteOf x) f a m = go (m.writable f a)
-  where
-    go : (t : Bool) → (cond t (byte_set f a x m) m).space ≡ m.space
-    go true = refl
-    go false = refl
-data_space (WordOf x y) f a m = go (is_word_writable f a m)
-  where
-    go : (t : Bool) → (cond t (byte_set f (low_address a) y (byte_set f a x m)) m).space ≡ m.space
-    go true = refl
-    go false = refl
+data_space (ByteOf x) f a m = cond_both (m.writable f a) _ _ (λ (y : MemoryMeaning). y.space ≡ m.space) (λ _. refl) (λ _. refl)
+data_space (WordOf x y) f a m = cond_both (is_word_writable f a m) _ _ (λ (y : MemoryMeaning). y.space ≡ m.space) (λ _. refl) (λ _. refl)
 
 put_space : (e : End) (v : Data) (f a : ℕ) (m : MemoryMeaning) → (memory_put e v f a m).space ≡ m.space
 put_space InMemory v f a m = data_space v f a m

@@ -1,5 +1,5 @@
 -- Each turn logs one entry; at the end all are logged, and tell a lawful history.
-use Rattle.std.proofs.Common.{ℕ, ◌-◌, ◌<◌, ◌≤◌, length, Ok, ◌∙◌, ap₂, arith, rules}
+use Rattle.std.proofs.Common.{ℕ, ◌-◌, ◌<◌, ◌≤◌, length, Ok, ◌∙◌, ap₂, arith}
 use Rattle.queue.specs.Queue.{held, capacity_of}
 use Rattle.dmac.specs.Controller.{new_controller}
 use Rattle.dmac.specs.Step.{machine_of}
@@ -7,9 +7,6 @@ use Rattle.audit.specs.Calls.{ReadByte, Byte}
 use Rattle.audit.specs.Played.{calls_of, played}
 use Rattle.audit.proofs.Logs.{turn_again, play_end, played_lawfully}
 use Rattle.audit.proofs.log.play.Goals as goal
-
-pub loop-entry-init : goal.loop-entry-init
-loop-entry-init g c = search rules
 
 pub loop-entry-preserved : goal.loop-entry-preserved
 loop-entry-preserved g c =
