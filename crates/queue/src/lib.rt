@@ -7,6 +7,7 @@
 //     let mut given = [0u8; 2];
 //     let n = move_oldest(&mut queue, &mut given, 1);     // n is 1, and given begins with 7
 //     queue.get(0)                                        // Some(8), the oldest now
+//     for item in queue.iter() { .. }                     // over what it holds, from the oldest on
 //
 // The slots are used as a ring, so nothing is ever shifted. The elements are of any plain (`Copy`) type.
 #![tactic(auto)]

@@ -4,7 +4,7 @@ ghost use Rattle.std.specs.Prelude.{◌≡◌, ◌+◌, ◌-◌, ◌<◌, ◌≤
 use crate::iter::Iter;
 
 // The oldest element is in the slot `head`, and the `len` elements follow one another from there on; after
-// the last slot comes the first.
+// the last slot comes the first. No more are held than there are slots.
 #[derive(Drop)]
 pub struct Queue<'a, T: Copy> {
     slots: &'a mut [T],
