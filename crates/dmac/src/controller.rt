@@ -5,7 +5,7 @@ ghost use Rattle.dmac.specs.Controller.{new_controller, controller_reset};
 use channel::state::Channel;
 
 // `last` is the channel that was served last, and `bus` stands while the controller holds the bus.
-#[derive(Drop)]
+#[derive(PartialEq, Eq, Debug, Drop)]
 pub struct Dmac {
     pub(crate) channels: [Channel; 4],
     pub(crate) gcr: u8,
