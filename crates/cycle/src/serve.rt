@@ -4,7 +4,7 @@ ghost use Rattle.bus.specs.Memory.{MemoryMeaning};
 ghost use Rattle.devices.specs.Bank.{BankMeaning};
 ghost use Rattle.channel.specs.Operation.{words_read};
 ghost use Rattle.cycle.specs.Plan.{plan};
-ghost use Rattle.cycle.specs.Serve.{Served, Kept, kind_by, side_fault, begun_at, operand_moved, slot_carried, slot_data, is_slot_ready, is_slot_answered, slot_served, slot_at, next_fault, operand_served, entry_served, served, bus_fault, is_entry_misplaced};
+ghost use Rattle.cycle.specs.Serve.{Served, Kept, kind_by, side_fault, begun_at, operand_moved, slot_carried, slot_data, slot_at, next_fault, operand_served, entry_served, served, bus_fault, is_entry_misplaced};
 
 use crate::carry::sent;
 use crate::plan::{Side, Slot, Way, plan};
@@ -102,38 +102,6 @@ fn carry<M: Memory, D: DeviceBank>(
     }
 }
 
-// One cycle of an operand, or what keeps it from being carried out.
-fn serve_slot<M: Memory, D: DeviceBank>(
-    slot: Slot,
-    last: bool,
-    progress: Progress,
-    line: bool,
-    number: u8,
-    channel: &mut Channel,
-    around: &mut Surroundings<M, D>,
-) -> Result<Record, Hindrance>
-    requires { progress.cycles < 255 }
-    ensures all { record { channel = channel.new; memory = M.Memory.means around.new.memory; bank = D.DeviceBank.bank around.new.devices; outcome = result } ≡ slot_served slot last progress.cycles progress.held progress.done line number channel.old (M.Memory.means around.old.memory) (D.DeviceBank.bank around.old.devices) }
-    ensures kept { Kept result channel.old (M.Memory.means around.old.memory) (D.DeviceBank.bank around.old.devices) channel.new (M.Memory.means around.new.memory) (D.DeviceBank.bank around.new.devices) }
-{
-    let config = channel.registers.config;
-    if !slot.is_ready(number, config, &around.devices) {
-        return Err(Hindrance::Waiting);
-    }
-    if !slot.is_answered(channel, &around.memory) {
-        return Err(Hindrance::Failed(slot.fault()));
-    }
-    let done = progress.done || (line && slot.is_device_cycle(config));
-    Ok(carry(
-        slot,
-        last,
-        Progress { done, ..progress },
-        number,
-        channel,
-        around,
-    ))
-}
-
 // The cycle of an operand that comes after so many, and whether it is the last.
 fn next_slot(config: Config, cycles: u8) -> Option<(Slot, bool)>
     ensures slot { result ≡ slot_at cycles (plan config) }
@@ -144,6 +112,7 @@ fn next_slot(config: Config, cycles: u8) -> Option<(Slot, bool)>
     Some((*slots.get(at)?, at + 1 == slots.len()))
 }
 
+// The next cycle of an operand, or what keeps it from being carried out.
 fn serve_operand<M: Memory, D: DeviceBank>(
     progress: Progress,
     line: bool,
@@ -154,10 +123,17 @@ fn serve_operand<M: Memory, D: DeviceBank>(
     ensures all { record { channel = channel.new; memory = M.Memory.means around.new.memory; bank = D.DeviceBank.bank around.new.devices; outcome = result } ≡ operand_served progress.cycles progress.held progress.done line number channel.old (M.Memory.means around.old.memory) (D.DeviceBank.bank around.old.devices) }
     ensures kept { Kept result channel.old (M.Memory.means around.old.memory) (D.DeviceBank.bank around.old.devices) channel.new (M.Memory.means around.new.memory) (D.DeviceBank.bank around.new.devices) }
 {
-    let (slot, last) = next_slot(channel.registers.config, progress.cycles).ok_or(
-        Hindrance::Waiting,
-    )?;
-    serve_slot(slot, last, progress, line, number, channel, around)
+    let config = channel.registers.config;
+    let (slot, last) = next_slot(config, progress.cycles).ok_or(Hindrance::Waiting)?;
+    if !slot.is_ready(number, config, &around.devices) {
+        return Err(Hindrance::Waiting);
+    }
+    if !slot.is_answered(channel, &around.memory) {
+        return Err(Hindrance::Failed(slot.fault()));
+    }
+    let done = progress.done || (line && slot.is_device_cycle(config));
+    let progress = Progress { done, ..progress };
+    Ok(carry(slot, last, progress, number, channel, around))
 }
 
 // The next word of an entry.
