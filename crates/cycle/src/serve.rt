@@ -4,7 +4,8 @@ ghost use Rattle.bus.specs.Memory.{MemoryMeaning};
 ghost use Rattle.devices.specs.Bank.{BankMeaning};
 ghost use Rattle.channel.specs.Operation.{words_read};
 ghost use Rattle.cycle.specs.Plan.{plan};
-ghost use Rattle.cycle.specs.Serve.{Served, Kept, kind_by, side_fault, begun_at, operand_moved, slot_carried, slot_data, slot_at, next_fault, operand_served, entry_served, served, bus_fault, is_entry_misplaced};
+ghost use Rattle.cycle.specs.Surroundings.{within};
+ghost use Rattle.cycle.specs.Serve.{Served, left, Kept, kind_by, side_fault, begun_at, operand_moved, slot_carried, slot_data, slot_at, next_fault, operand_served, entry_served, served, bus_fault, is_entry_misplaced};
 
 use crate::carry::sent;
 use crate::plan::{Side, Slot, Way, plan};
@@ -84,7 +85,7 @@ fn carry<M: Memory, D: DeviceBank>(
     around: &mut Surroundings<M, D>,
 ) -> Record
     requires { progress.cycles < 255 }
-    ensures { record { channel = channel.new; memory = M.Memory.means around.new.memory; bank = D.DeviceBank.bank around.new.devices; outcome = Ok result } ≡ slot_carried slot last progress.cycles progress.held progress.done (slot_data slot number progress.held channel.old (M.Memory.means around.old.memory) (D.DeviceBank.bank around.old.devices)) number channel.old (M.Memory.means around.old.memory) (D.DeviceBank.bank around.old.devices) }
+    ensures { within M.Memory.means D.DeviceBank.bank around.new (left (Ok result) channel.new) ≡ within M.Memory.means D.DeviceBank.bank around.old (λ m b. slot_carried slot last progress.cycles progress.held progress.done (slot_data slot number progress.held channel.old m b) number channel.old m b) }
 {
     let config = channel.registers.config;
     let (from, to) = slot.ends(config);
@@ -120,7 +121,7 @@ fn serve_operand<M: Memory, D: DeviceBank>(
     channel: &mut Channel,
     around: &mut Surroundings<M, D>,
 ) -> Result<Record, Hindrance>
-    ensures all { record { channel = channel.new; memory = M.Memory.means around.new.memory; bank = D.DeviceBank.bank around.new.devices; outcome = result } ≡ operand_served progress.cycles progress.held progress.done line number channel.old (M.Memory.means around.old.memory) (D.DeviceBank.bank around.old.devices) }
+    ensures all { within M.Memory.means D.DeviceBank.bank around.new (left result channel.new) ≡ within M.Memory.means D.DeviceBank.bank around.old (operand_served progress.cycles progress.held progress.done line number channel.old) }
     ensures kept { Kept result channel.old (M.Memory.means around.old.memory) (D.DeviceBank.bank around.old.devices) channel.new (M.Memory.means around.new.memory) (D.DeviceBank.bank around.new.devices) }
 {
     let config = channel.registers.config;
@@ -143,7 +144,7 @@ fn serve_entry<M: Memory>(
     channel: &mut Channel,
     memory: &M,
 ) -> Result<Record, Hindrance>
-    ensures all { (b : BankMeaning) → record { channel = channel.new; memory = M.Memory.means memory.now; bank = b; outcome = result } ≡ entry_served words number channel.old (M.Memory.means memory.now) b }
+    ensures all { (b : BankMeaning) → left result channel.new (M.Memory.means memory.now) b ≡ entry_served words number channel.old (M.Memory.means memory.now) b }
     ensures kept { (m : MemoryMeaning) (b : BankMeaning) → Kept result channel.old m b channel.new m b }
 {
     let code = channel.registers.table.bfc;
@@ -181,7 +182,7 @@ pub fn serve<M: Memory, D: DeviceBank>(
     around: &mut Surroundings<M, D>,
     line: bool,
 ) -> Result<Record, Hindrance>
-    ensures all { record { channel = channel.new; memory = M.Memory.means around.new.memory; bank = D.DeviceBank.bank around.new.devices; outcome = result } ≡ served line number channel.old (M.Memory.means around.old.memory) (D.DeviceBank.bank around.old.devices) }
+    ensures all { within M.Memory.means D.DeviceBank.bank around.new (left result channel.new) ≡ within M.Memory.means D.DeviceBank.bank around.old (served line number channel.old) }
     ensures kept { Kept result channel.old (M.Memory.means around.old.memory) (D.DeviceBank.bank around.old.devices) channel.new (M.Memory.means around.new.memory) (D.DeviceBank.bank around.new.devices) }
 {
     match channel.phase {
