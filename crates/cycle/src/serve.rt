@@ -25,8 +25,8 @@ pub enum Hindrance {
     Failed(Fault),
 }
 
-// How far an operand has come: the cycles done, the bytes held, and whether the device has signalled DONE. (The phase
-// has the same three only inside an operand; before its first cycle there are none to read.)
+// How far an operand has come: the cycles done, the bytes held, and whether the device has signalled DONE. (A phase has
+// the same three only inside an operand; before the first cycle an operand has them too, and the channel is idle.)
 #[derive(Clone, Copy)]
 struct Progress {
     cycles: u8,
@@ -75,7 +75,8 @@ fn advance(channel: &mut Channel, last: bool, progress: Progress)
     }
 }
 
-// Carries out a cycle whose device is ready and whose place is answered.
+// Carries out a cycle whose device is ready and whose place is answered. (A struct of the channel and its surroundings
+// would hold both by `&mut`, and each of its methods would also have to promise that it keeps those references.)
 fn carry<M: Memory, D: DeviceBank>(
     slot: Slot,
     last: bool,
