@@ -2,4 +2,5 @@ pub mod Plan
 pub mod Held
 pub mod Carry
 pub mod Record
+pub mod Surroundings
 pub mod Serve

@@ -34,6 +34,10 @@ pub record Served : Type 0 where
   pub bank : BankMeaning
   pub outcome : Result Record Hindrance
 
+-- What serving left of a channel, a memory and a bank.
+abbrev pub left : Result Record Hindrance → Channel → MemoryMeaning → BankMeaning → Served
+left o c m b = record { channel = c; memory = m; bank = b; outcome = o }
+
 -- Nothing is carried out: the device is not ready, or a place is not answered.
 abbrev pub not_served : Hindrance → Channel → MemoryMeaning → BankMeaning → Served
 not_served w c m b = record { channel = c; memory = m; bank = b; outcome = Err w }

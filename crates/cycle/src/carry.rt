@@ -10,10 +10,11 @@ use crate::held::{first_of, rest_of, with_more};
 use crate::plan::{Side, Slot, Way};
 use crate::record::Data;
 use crate::surroundings::Surroundings;
+use bus::flat::PLACES;
 use bus::memory::{Memory, Place};
 use channel::state::{Channel, Held};
 use devices::bank::DeviceBank;
-use registers::groups::Config;
+use registers::groups::{Config, Registers};
 
 // Where the bytes of a cycle come from or go to: memory, the channel's device, or what the channel holds.
 #[derive(Clone, Copy, PartialEq, Eq, Debug)]
@@ -27,7 +28,7 @@ pub enum End {
 pub(crate) fn sent(register: u32, offset: u32) -> u32
     ensures { result ≡ sent register offset }
 {
-    register.wrapping_add(offset) % 0x1000000
+    register.wrapping_add(offset) % PLACES as u32
 }
 
 fn side_end(side: Side, config: Config) -> End
@@ -64,16 +65,18 @@ impl Slot {
     pub(crate) fn place(self, channel: &Channel) -> Place
         ensures { result ≡ record { code = slot_code self channel.now; address = slot_address self channel.now } }
     {
-        let counters = channel.registers.counters;
-        match self.side {
-            Side::Memory => Place {
-                code: counters.mfc,
-                address: sent(counters.mar, self.offset),
-            },
-            Side::Device => Place {
-                code: channel.registers.config.dfc,
-                address: sent(counters.dar, self.offset),
-            },
+        let Registers {
+            config,
+            counters,
+            ..
+        } = channel.registers;
+        let (code, register) = match self.side {
+            Side::Memory => (counters.mfc, counters.mar),
+            Side::Device => (config.dfc, counters.dar),
+        };
+        Place {
+            code,
+            address: sent(register, self.offset),
         }
     }
 
@@ -134,6 +137,7 @@ impl Data {
     }
 }
 
+// A memory and a bank of devices are asked by methods of their own, so that each has its own two functions here.
 fn read_memory<M: Memory>(memory: &M, place: Place, word: bool) -> Data
     ensures { result ≡ (if word then word_data (word_read place.code place.address (M.Memory.means memory.now)) else byte_data (byte_read place.code place.address (M.Memory.means memory.now))) }
 {

@@ -42,7 +42,8 @@ macro_rules! slot {
     };
 }
 
-// A 16-bit port: one cycle on each side for each portion.
+// A 16-bit port: one cycle on each side for each portion. (Both directions are written out: a plan is lent from
+// constants, since the controller has no memory in which to build one.)
 fn plan_wide(inward: bool, size: Size) -> &'static [Slot]
     ensures slots { result.now ≡ plan_wide inward size }
     ensures few { length result.now ≤ 6 }

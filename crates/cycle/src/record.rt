@@ -33,7 +33,7 @@ impl Kind {
 }
 
 // A cycle with the function code and the address that were sent (under single addressing those of the memory), or an
-// error in the place of one.
+// error in the place of one. (The two stand apart and not as a Place: a record is read, and no memory is asked by it.)
 #[derive(Clone, Copy, PartialEq, Eq, Debug)]
 pub enum Record {
     Cycle {

@@ -4,7 +4,8 @@ ghost use Rattle.bus.specs.Memory.{MemoryMeaning};
 ghost use Rattle.devices.specs.Bank.{BankMeaning};
 ghost use Rattle.channel.specs.Operation.{words_read};
 ghost use Rattle.cycle.specs.Plan.{plan};
-ghost use Rattle.cycle.specs.Serve.{Served, Kept, kind_by, side_fault, begun_at, operand_moved, slot_carried, slot_data, is_slot_ready, is_slot_answered, slot_served, slot_at, next_fault, operand_served, entry_served, served, bus_fault, is_entry_misplaced};
+ghost use Rattle.cycle.specs.Surroundings.{within};
+ghost use Rattle.cycle.specs.Serve.{Served, left, Kept, kind_by, side_fault, begun_at, operand_moved, slot_carried, slot_data, slot_at, next_fault, operand_served, entry_served, served, bus_fault, is_entry_misplaced};
 
 use crate::carry::sent;
 use crate::plan::{Side, Slot, Way, plan};
@@ -24,8 +25,8 @@ pub enum Hindrance {
     Failed(Fault),
 }
 
-// How far an operand has come: the cycles done, the bytes held, and whether the device has signalled DONE. (The phase
-// has the same three only inside an operand; before its first cycle there are none to read.)
+// How far an operand has come: the cycles done, the bytes held, and whether the device has signalled DONE. (A phase has
+// the same three only inside an operand; before the first cycle an operand has them too, and the channel is idle.)
 #[derive(Clone, Copy)]
 struct Progress {
     cycles: u8,
@@ -74,7 +75,8 @@ fn advance(channel: &mut Channel, last: bool, progress: Progress)
     }
 }
 
-// Carries out a cycle whose device is ready and whose place is answered.
+// Carries out a cycle whose device is ready and whose place is answered. (A struct of the channel and its surroundings
+// would hold both by `&mut`, and each of its methods would also have to promise that it keeps those references.)
 fn carry<M: Memory, D: DeviceBank>(
     slot: Slot,
     last: bool,
@@ -84,7 +86,7 @@ fn carry<M: Memory, D: DeviceBank>(
     around: &mut Surroundings<M, D>,
 ) -> Record
     requires { progress.cycles < 255 }
-    ensures { record { channel = channel.new; memory = M.Memory.means around.new.memory; bank = D.DeviceBank.bank around.new.devices; outcome = Ok result } ≡ slot_carried slot last progress.cycles progress.held progress.done (slot_data slot number progress.held channel.old (M.Memory.means around.old.memory) (D.DeviceBank.bank around.old.devices)) number channel.old (M.Memory.means around.old.memory) (D.DeviceBank.bank around.old.devices) }
+    ensures { within M.Memory.means D.DeviceBank.bank around.new (left (Ok result) channel.new) ≡ within M.Memory.means D.DeviceBank.bank around.old (λ m b. slot_carried slot last progress.cycles progress.held progress.done (slot_data slot number progress.held channel.old m b) number channel.old m b) }
 {
     let config = channel.registers.config;
     let (from, to) = slot.ends(config);
@@ -102,38 +104,6 @@ fn carry<M: Memory, D: DeviceBank>(
     }
 }
 
-// One cycle of an operand, or what keeps it from being carried out.
-fn serve_slot<M: Memory, D: DeviceBank>(
-    slot: Slot,
-    last: bool,
-    progress: Progress,
-    line: bool,
-    number: u8,
-    channel: &mut Channel,
-    around: &mut Surroundings<M, D>,
-) -> Result<Record, Hindrance>
-    requires { progress.cycles < 255 }
-    ensures all { record { channel = channel.new; memory = M.Memory.means around.new.memory; bank = D.DeviceBank.bank around.new.devices; outcome = result } ≡ slot_served slot last progress.cycles progress.held progress.done line number channel.old (M.Memory.means around.old.memory) (D.DeviceBank.bank around.old.devices) }
-    ensures kept { Kept result channel.old (M.Memory.means around.old.memory) (D.DeviceBank.bank around.old.devices) channel.new (M.Memory.means around.new.memory) (D.DeviceBank.bank around.new.devices) }
-{
-    let config = channel.registers.config;
-    if !slot.is_ready(number, config, &around.devices) {
-        return Err(Hindrance::Waiting);
-    }
-    if !slot.is_answered(channel, &around.memory) {
-        return Err(Hindrance::Failed(slot.fault()));
-    }
-    let done = progress.done || (line && slot.is_device_cycle(config));
-    Ok(carry(
-        slot,
-        last,
-        Progress { done, ..progress },
-        number,
-        channel,
-        around,
-    ))
-}
-
 // The cycle of an operand that comes after so many, and whether it is the last.
 fn next_slot(config: Config, cycles: u8) -> Option<(Slot, bool)>
     ensures slot { result ≡ slot_at cycles (plan config) }
@@ -144,6 +114,7 @@ fn next_slot(config: Config, cycles: u8) -> Option<(Slot, bool)>
     Some((*slots.get(at)?, at + 1 == slots.len()))
 }
 
+// The next cycle of an operand, or what keeps it from being carried out.
 fn serve_operand<M: Memory, D: DeviceBank>(
     progress: Progress,
     line: bool,
@@ -151,13 +122,20 @@ fn serve_operand<M: Memory, D: DeviceBank>(
     channel: &mut Channel,
     around: &mut Surroundings<M, D>,
 ) -> Result<Record, Hindrance>
-    ensures all { record { channel = channel.new; memory = M.Memory.means around.new.memory; bank = D.DeviceBank.bank around.new.devices; outcome = result } ≡ operand_served progress.cycles progress.held progress.done line number channel.old (M.Memory.means around.old.memory) (D.DeviceBank.bank around.old.devices) }
+    ensures all { within M.Memory.means D.DeviceBank.bank around.new (left result channel.new) ≡ within M.Memory.means D.DeviceBank.bank around.old (operand_served progress.cycles progress.held progress.done line number channel.old) }
     ensures kept { Kept result channel.old (M.Memory.means around.old.memory) (D.DeviceBank.bank around.old.devices) channel.new (M.Memory.means around.new.memory) (D.DeviceBank.bank around.new.devices) }
 {
-    let (slot, last) = next_slot(channel.registers.config, progress.cycles).ok_or(
-        Hindrance::Waiting,
-    )?;
-    serve_slot(slot, last, progress, line, number, channel, around)
+    let config = channel.registers.config;
+    let (slot, last) = next_slot(config, progress.cycles).ok_or(Hindrance::Waiting)?;
+    if !slot.is_ready(number, config, &around.devices) {
+        return Err(Hindrance::Waiting);
+    }
+    if !slot.is_answered(channel, &around.memory) {
+        return Err(Hindrance::Failed(slot.fault()));
+    }
+    let done = progress.done || (line && slot.is_device_cycle(config));
+    let progress = Progress { done, ..progress };
+    Ok(carry(slot, last, progress, number, channel, around))
 }
 
 // The next word of an entry.
@@ -167,7 +145,7 @@ fn serve_entry<M: Memory>(
     channel: &mut Channel,
     memory: &M,
 ) -> Result<Record, Hindrance>
-    ensures all { (b : BankMeaning) → record { channel = channel.new; memory = M.Memory.means memory.now; bank = b; outcome = result } ≡ entry_served words number channel.old (M.Memory.means memory.now) b }
+    ensures all { (b : BankMeaning) → left result channel.new (M.Memory.means memory.now) b ≡ entry_served words number channel.old (M.Memory.means memory.now) b }
     ensures kept { (m : MemoryMeaning) (b : BankMeaning) → Kept result channel.old m b channel.new m b }
 {
     let code = channel.registers.table.bfc;
@@ -205,7 +183,7 @@ pub fn serve<M: Memory, D: DeviceBank>(
     around: &mut Surroundings<M, D>,
     line: bool,
 ) -> Result<Record, Hindrance>
-    ensures all { record { channel = channel.new; memory = M.Memory.means around.new.memory; bank = D.DeviceBank.bank around.new.devices; outcome = result } ≡ served line number channel.old (M.Memory.means around.old.memory) (D.DeviceBank.bank around.old.devices) }
+    ensures all { within M.Memory.means D.DeviceBank.bank around.new (left result channel.new) ≡ within M.Memory.means D.DeviceBank.bank around.old (served line number channel.old) }
     ensures kept { Kept result channel.old (M.Memory.means around.old.memory) (D.DeviceBank.bank around.old.devices) channel.new (M.Memory.means around.new.memory) (D.DeviceBank.bank around.new.devices) }
 {
     match channel.phase {
