@@ -70,6 +70,7 @@ impl Dmac {
         ensures run { record { machine = machine_at M.Memory.means D.DeviceBank.bank self.new around.new; trace = held trace.new; told = result } ≡ run_on steps (capacity_of trace.old) 0 (machine_at M.Memory.means D.DeviceBank.bank self.old around.old) (held trace.old) }
         ensures room { capacity_of trace.new ≡ capacity_of trace.old }
     {
+        // The steps are counted, since the answer tells how many were made.
         for made in 0..steps {
             if trace.is_full() {
                 return Ran {

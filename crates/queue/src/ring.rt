@@ -109,6 +109,7 @@ impl<'a, T: Copy> Queue<'a, T> {
     }
 
     // Adds an element as the newest; false, with nothing changed, where the queue is full.
+    // A bool and no Result: callers have made sure of room before, and would drop the error.
     pub fn push(&mut self, x: T) -> bool
         ensures answer { result ≡ nat_lt (length (held self.old)) (capacity_of self.old) }
         ensures items { held self.new ≡ (if result then held self.old ++ (x ∷ []) else held self.old) }

@@ -18,7 +18,7 @@ ghost use Rattle.refusal.specs.Number.{number_of};
 use crate::kinds::Refusal;
 
 impl Refusal {
-    // The number by which this refusal is known.
+    // The number by which this refusal is known. By this name and no From, since a script prints just this number.
     pub fn number(self) -> u8
         ensures { result ≡ number_of self }
     {

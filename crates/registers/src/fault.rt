@@ -18,6 +18,7 @@ pub enum Fault {
 }
 
 impl Fault {
+    // What the error register shows. By this name and no From, since a caller means the register.
     pub fn code(self) -> u8
         ensures { result ≡ code_of self }
     {
