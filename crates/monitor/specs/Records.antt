@@ -1,5 +1,5 @@
 -- How a run is printed: a line for each record, and a line for why it ended.
-use Rattle.std.specs.Prelude.{ℕ, ◌/◌, ◌%◌, List, [], ◌∷◌, ◌++◌, Some, None, Option}
+use Rattle.std.specs.Prelude.{ℕ, ◌/◌, ◌%◌, List, [], ◌∷◌, ◌++◌}
 use Rattle.registers.specs.Fault.{code_of}
 use Rattle.cycle.specs.declared.record.Data.{Data}
 use Rattle.cycle.specs.declared.record.Data.TheVariants.{Byte, Word}
@@ -34,10 +34,6 @@ head_text n letter = hex_code (n % 16) ∷ 32 ∷ letter ∷ 32 ∷ []
 abbrev pub record_text : Record → List ℕ
 record_text (Cycle n k f a v) = head_text n (kind_letter k) ++ (address_text a ++ data_text v)
 record_text (Error n f) = head_text n 70 ++ byte_text (code_of f)
-
-abbrev pub item_text : Option Record → List ℕ
-item_text None = []
-item_text (Some r) = record_text r
 
 abbrev pub records_text : List Record → List ℕ
 records_text [] = []

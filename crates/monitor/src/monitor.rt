@@ -24,7 +24,7 @@ use queue::Queue;
 use refusal::kinds::Refusal;
 use registers::fault::Fault;
 use script::command::Command;
-use script::lines::{after_line, first_line};
+use script::lines::Lines;
 use script::parse::parse;
 use script::text::{data_count, put_byte, put_newline, put_ok, put_refusal};
 use std::alloc::AllocError;
@@ -53,7 +53,7 @@ impl<M: Memory> Monitor<M> {
     }
 
     // Makes a call with devices that are never ready.
-    fn call(&mut self, trace: &mut Queue<'_, Record>, call: Call) -> Reply
+    fn call(&mut self, trace: &mut Queue<'_, Record>, call: Call) -> Result<Reply, Refusal>
         ensures { record { machine = machine_of self.new.dmac (M.Memory.means self.new.memory) nothing; trace = held trace.new; reply = result } ≡ performed call (capacity_of trace.old) (machine_of self.old.dmac (M.Memory.means self.old.memory) nothing) (held trace.old) }
     {
         let mut devices = NoDevices;
@@ -140,11 +140,8 @@ impl<M: Memory> Monitor<M> {
     fn carry_out(&mut self, script: &[u8], out: &mut Vec<u8>) -> Result<(), AllocError>
         ensures { OnOk result (session_of self.new.dmac (M.Memory.means self.new.memory) out.new.items ≡ script_done script.now (session_of self.old.dmac (M.Memory.means self.old.memory) out.old.items)) }
     {
-        let mut rest = beginning(script);
-        while !rest.is_empty() {
-            let line = first_line(rest);
+        for line in Lines::of(beginning(script)) {
             self.line(line, out)?;
-            rest = after_line(rest, line.len());
         }
         Ok(())
     }
@@ -164,55 +161,35 @@ impl<M: Memory> Monitor<M> {
 fn beginning<'a>(script: &'a [u8]) -> &'a [u8]
     ensures { result.now ≡ take 16384 script.now }
 {
-    if script.len() > SCRIPT {
-        script.split_at(SCRIPT).0
-    } else {
-        script
-    }
-}
-
-// What a register write replies.
-fn put_done(done: Result<(), Refusal>, out: &mut Vec<u8>) -> Result<(), AllocError>
-    ensures { OnOk result (out.new.items ≡ out.old.items ++ done_text done) }
-{
-    match done {
-        Ok(()) => put_ok(out),
-        Err(refusal) => put_refusal(out, refusal),
-    }
-}
-
-// What a register read replies.
-fn put_value(value: Result<u8, Refusal>, out: &mut Vec<u8>) -> Result<(), AllocError>
-    ensures { OnOk result (out.new.items ≡ out.old.items ++ value_text value) }
-{
-    match value {
-        Ok(byte) => put_byte(out, byte),
-        Err(refusal) => put_refusal(out, refusal),
-    }
+    &script[..SCRIPT.min(script.len())]
 }
 
 // What a call replies that is no run.
-fn put_reply(reply: Reply, out: &mut Vec<u8>) -> Result<(), AllocError>
+fn put_reply(reply: Result<Reply, Refusal>, out: &mut Vec<u8>) -> Result<(), AllocError>
     ensures { OnOk result (out.new.items ≡ out.old.items ++ reply_text reply) }
 {
     match reply {
-        Reply::Done => put_done(Ok(()), out),
-        Reply::Byte(byte) => put_value(Ok(byte), out),
-        Reply::Refused(refusal) => put_refusal(out, refusal),
-        Reply::Word(_) | Reply::Stepped(_) | Reply::Ended(_) => Ok(()),
+        Ok(Reply::Done) => put_ok(out),
+        Ok(Reply::Byte(byte)) => put_byte(out, byte),
+        Ok(Reply::Word(_) | Reply::Stepped(_) | Reply::Ended(_)) => Ok(()),
+        Err(refusal) => put_refusal(out, refusal),
     }
 }
 
 // The records of a run and why it ended, or its refusal.
-fn put_run(reply: Reply, trace: &Queue<'_, Record>, out: &mut Vec<u8>) -> Result<(), AllocError>
+fn put_run(
+    reply: Result<Reply, Refusal>,
+    trace: &Queue<'_, Record>,
+    out: &mut Vec<u8>,
+) -> Result<(), AllocError>
     ensures { OnOk result (out.new.items ≡ out.old.items ++ run_text reply (held trace.now)) }
 {
     match reply {
-        Reply::Ended(ran) => {
+        Ok(Reply::Ended(ran)) => {
             put_records(out, trace)?;
             put_ending(out, ran.ending)
         }
-        Reply::Refused(refusal) => put_refusal(out, refusal),
-        Reply::Byte(_) | Reply::Word(_) | Reply::Done | Reply::Stepped(_) => Ok(()),
+        Ok(Reply::Byte(_) | Reply::Word(_) | Reply::Done | Reply::Stepped(_)) => Ok(()),
+        Err(refusal) => put_refusal(out, refusal),
     }
 }
