@@ -3,7 +3,7 @@ ghost use Rattle.std.specs.Prelude.{◌≡◌, ◌+◌, ◌≤◌, ◌++◌, len
 ghost use Rattle.script.specs.Digits.{data_bytes};
 ghost use Rattle.monitor.specs.Area.{is_past_the_end, takes_all, filled, byte_shown, area_text};
 
-use bus::memory::Memory;
+use bus::memory::{Memory, Place};
 use bus::store::{is_storable, store};
 use script::text::{DataBytes, data_count, put_pair};
 use std::alloc::AllocError;
@@ -13,6 +13,16 @@ const CODE: u8 = 5;
 
 // The addresses that a script reaches are below this one.
 const END: usize = 0x1000;
+
+// A place that a script reaches.
+fn place(address: u32) -> Place
+    ensures { result ≡ record { code = 5; address = address } }
+{
+    Place {
+        code: CODE,
+        address,
+    }
+}
 
 pub(crate) fn is_past_the_end(address: u32, count: usize) -> bool
     ensures { result ≡ is_past_the_end address count }
@@ -25,7 +35,7 @@ pub(crate) fn takes_all<M: Memory>(memory: &M, address: u32, digits: &[u8]) -> b
     ensures { result ≡ takes_all address (data_bytes digits.now) (M.Memory.means memory.now) }
 {
     let end = address + data_count(digits) as u32;
-    (address..end).all(|at| is_storable(memory, CODE, at))
+    (address..end).all(|at| is_storable(memory, place(at)))
 }
 
 pub(crate) fn fill<M: Memory>(memory: &mut M, address: u32, digits: &[u8])
@@ -34,14 +44,14 @@ pub(crate) fn fill<M: Memory>(memory: &mut M, address: u32, digits: &[u8])
 {
     let end = address + data_count(digits) as u32;
     for (at, byte) in (address..end).zip(DataBytes::of(digits)) {
-        let _ = store(memory, CODE, at, byte);
+        let _ = store(memory, place(at), byte);
     }
 }
 
 fn byte_shown<M: Memory>(memory: &M, address: u32) -> u8
     ensures { result ≡ byte_shown address (M.Memory.means memory.now) }
 {
-    memory.read(CODE, address).unwrap_or(0)
+    memory.read(place(address)).unwrap_or(0)
 }
 
 pub(crate) fn put_area<M: Memory>(

@@ -1,24 +1,14 @@
 // Printing what a run did.
 ghost use Rattle.std.specs.Prelude.{◌≡◌, ◌++◌, OnOk, Some};
 ghost use Rattle.queue.specs.Queue.{held};
-ghost use Rattle.monitor.specs.Records.{kind_letter, data_text, address_text, record_text, records_text, ending_text};
+ghost use Rattle.monitor.specs.Records.{data_text, address_text, record_text, records_text, ending_text};
 
-use cycle::record::{Data, Kind, Record};
+use cycle::record::{Data, Record};
 use dmac::run::Ending;
 use queue::Queue;
 use script::text::{Hex, put};
 use std::alloc::AllocError;
 use std::fmt;
-
-fn letter(kind: Kind) -> u8
-    ensures { result ≡ kind_letter kind }
-{
-    match kind {
-        Kind::Read => b'R',
-        Kind::Write => b'W',
-        Kind::Entry => b'B',
-    }
-}
 
 // The data of a cycle, and the end of the line.
 #[derive(Clone, Copy)]
@@ -64,7 +54,7 @@ impl fmt::Display for Line {
                 address,
                 data,
             } => {
-                let letter = char::from(letter(kind));
+                let letter = char::from(kind.letter());
                 write!(
                     f,
                     "{:X} {letter} {}{}",

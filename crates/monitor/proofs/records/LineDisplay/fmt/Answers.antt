@@ -4,7 +4,8 @@ use Rattle.std.proofs.Math.Utf8.{encode}
 use Rattle.std.proofs.lemmas.Fmt.{hex_one_digit}
 use Rattle.cycle.specs.declared.record.Kind.{Kind}
 use Rattle.cycle.specs.declared.record.Kind.TheVariants.{Read, Write, Entry}
-use Rattle.monitor.specs.Records.{kind_letter, head_text}
+use Rattle.cycle.specs.Record.{kind_letter}
+use Rattle.monitor.specs.Records.{head_text}
 use Rattle.monitor.proofs.records.LineDisplay.fmt.Goals as goal
 
 letter_printed : (k : Kind) → encode (kind_letter k) ≡ kind_letter k ∷ []
