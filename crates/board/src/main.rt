@@ -6,10 +6,9 @@
 
 use anyhow::anyhow;
 use bus::flat::Flat;
+use inputs::for_each_input;
 use monitor::monitor::Monitor;
-use std::env;
-use std::fs::File;
-use std::io::{Read, Write};
+use std::io::Write;
 
 // The most bytes of a script that are read.
 const SCRIPT: u64 = 16384;
@@ -27,29 +26,6 @@ fn run(rt: &HostRuntime, script: &[u8]) -> anyhow::Result<()> {
     Ok(())
 }
 
-// The beginning of a script, from a file or, for -, from standard input.
-fn script_of(rt: &HostRuntime, name: &str) -> anyhow::Result<Vec<u8>> {
-    let mut script = Vec::new(rt.alloc());
-    if name == "-" {
-        rt.stdin().take(SCRIPT).read_to_end(&mut script)?;
-    } else {
-        File::open(rt, name)?.take(SCRIPT).read_to_end(&mut script)?;
-    }
-    Ok(script)
-}
-
-fn run_all(rt: &HostRuntime) -> anyhow::Result<()> {
-    let mut named = false;
-    for name in env::args(rt)?.skip(1) {
-        named = true;
-        run(rt, &script_of(rt, name.as_str())?)?;
-    }
-    if !named {
-        run(rt, &script_of(rt, "-")?)?;
-    }
-    Ok(())
-}
-
 fn main(rt: HostRuntime) -> anyhow::Result<()> {
-    run_all(&rt)
+    for_each_input(&rt, SCRIPT, |script| run(&rt, script))
 }

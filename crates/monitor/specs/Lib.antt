@@ -1,5 +1,6 @@
 pub mod Area
 pub mod Records
 pub mod Monitor
+pub mod Session
 pub mod Replies
 pub mod History

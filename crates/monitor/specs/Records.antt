@@ -1,21 +1,14 @@
 -- How a run is printed: a line for each record, and a line for why it ended.
-use Rattle.std.specs.Prelude.{ℕ, ◌/◌, ◌%◌, List, [], ◌∷◌, ◌++◌, Some, None, Option}
+use Rattle.std.specs.Prelude.{ℕ, ◌/◌, ◌%◌, List, [], ◌∷◌, ◌++◌}
 use Rattle.registers.specs.Fault.{code_of}
+use Rattle.cycle.specs.Record.{kind_letter}
 use Rattle.cycle.specs.declared.record.Data.{Data}
 use Rattle.cycle.specs.declared.record.Data.TheVariants.{Byte, Word}
-use Rattle.cycle.specs.declared.record.Kind.{Kind}
-use Rattle.cycle.specs.declared.record.Kind.TheVariants.{Read, Write, Entry}
 use Rattle.cycle.specs.declared.record.Record.{Record}
 use Rattle.cycle.specs.declared.record.Record.TheVariants.{Cycle, Error}
 use Rattle.dmac.specs.declared.run.Ending.{Ending}
 use Rattle.dmac.specs.declared.run.Ending.TheVariants.{Done, Idle, Waiting, Full}
 use Rattle.script.specs.Text.{hex_code, hex_text, byte_text, newline}
-
--- 82 is 'R' for a read, 87 is 'W' for a write, 66 is 'B' for a word of an entry.
-abbrev pub kind_letter : Kind → ℕ
-kind_letter Read = 82
-kind_letter Write = 87
-kind_letter Entry = 66
 
 -- One byte or two, and the end of the line.
 abbrev pub data_text : Data → List ℕ
@@ -34,10 +27,6 @@ head_text n letter = hex_code (n % 16) ∷ 32 ∷ letter ∷ 32 ∷ []
 abbrev pub record_text : Record → List ℕ
 record_text (Cycle n k f a v) = head_text n (kind_letter k) ++ (address_text a ++ data_text v)
 record_text (Error n f) = head_text n 70 ++ byte_text (code_of f)
-
-abbrev pub item_text : Option Record → List ℕ
-item_text None = []
-item_text (Some r) = record_text r
 
 abbrev pub records_text : List Record → List ℕ
 records_text [] = []

@@ -3,9 +3,9 @@ ghost use Rattle.std.specs.Prelude.{◌≡◌, ◌+◌, ◌≤◌, ◌++◌, len
 ghost use Rattle.script.specs.Digits.{data_bytes};
 ghost use Rattle.monitor.specs.Area.{is_past_the_end, takes_all, filled, byte_shown, area_text};
 
-use bus::memory::Memory;
+use bus::memory::{Memory, Place};
 use bus::store::{is_storable, store};
-use script::text::{byte_at, data_count, put_pair};
+use script::text::{DataBytes, data_count, put_pair};
 use std::alloc::AllocError;
 
 // The function code of the processor's own data.
@@ -13,6 +13,16 @@ const CODE: u8 = 5;
 
 // The addresses that a script reaches are below this one.
 const END: usize = 0x1000;
+
+// A place that a script reaches.
+fn place(address: u32) -> Place
+    ensures { result ≡ record { code = 5; address = address } }
+{
+    Place {
+        code: CODE,
+        address,
+    }
+}
 
 pub(crate) fn is_past_the_end(address: u32, count: usize) -> bool
     ensures { result ≡ is_past_the_end address count }
@@ -24,31 +34,24 @@ pub(crate) fn takes_all<M: Memory>(memory: &M, address: u32, digits: &[u8]) -> b
     requires { address + length (data_bytes digits.now) ≤ 0x1000 }
     ensures { result ≡ takes_all address (data_bytes digits.now) (M.Memory.means memory.now) }
 {
-    let mut at = address;
-    for i in 0..data_count(digits) {
-        if !is_storable(memory, CODE, at) {
-            return false;
-        }
-        at += 1;
-    }
-    true
+    let end = address + data_count(digits) as u32;
+    (address..end).all(|at| is_storable(memory, place(at)))
 }
 
 pub(crate) fn fill<M: Memory>(memory: &mut M, address: u32, digits: &[u8])
     requires { address + length (data_bytes digits.now) ≤ 0x1000 }
     ensures { M.Memory.means memory.new ≡ filled address (data_bytes digits.now) (M.Memory.means memory.old) }
 {
-    let mut at = address;
-    for i in 0..data_count(digits) {
-        let _ = store(memory, CODE, at, byte_at(digits, i));
-        at += 1;
+    let end = address + data_count(digits) as u32;
+    for (at, byte) in (address..end).zip(DataBytes::of(digits)) {
+        let _ = store(memory, place(at), byte);
     }
 }
 
 fn byte_shown<M: Memory>(memory: &M, address: u32) -> u8
     ensures { result ≡ byte_shown address (M.Memory.means memory.now) }
 {
-    memory.read(CODE, address).unwrap_or(0)
+    memory.read(place(address)).unwrap_or(0)
 }
 
 pub(crate) fn put_area<M: Memory>(
@@ -60,10 +63,8 @@ pub(crate) fn put_area<M: Memory>(
     requires { address + count ≤ 0x1000 }
     ensures { OnOk result (out.new.items ≡ out.old.items ++ area_text address count (M.Memory.means memory.now)) }
 {
-    let mut at = address;
-    for i in 0..count {
+    for at in address..address + u32::from(count) {
         put_pair(out, byte_shown(memory, at))?;
-        at += 1;
     }
     Ok(())
 }

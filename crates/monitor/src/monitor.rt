@@ -9,7 +9,8 @@ ghost use Rattle.script.specs.Digits.{data_bytes};
 ghost use Rattle.script.specs.Lines.{lines};
 ghost use Rattle.script.specs.Text.{refusal_text};
 ghost use Rattle.monitor.specs.History.{ScriptGoesOn};
-ghost use Rattle.monitor.specs.Monitor.{Session, session_of, done_text, value_text, write_done, read_done, fill_done, show_done, run_done, line_done, lines_done, script_done};
+ghost use Rattle.monitor.specs.Monitor.{write_done, read_done, fill_done, show_done, run_done, line_done, lines_done, script_done};
+ghost use Rattle.monitor.specs.Session.{session_at};
 ghost use Rattle.monitor.specs.Replies.{reply_text, run_text, answered};
 
 use crate::area::{fill, is_past_the_end, put_area, takes_all};
@@ -18,13 +19,14 @@ use audit::call::{Call, Reply};
 use audit::perform::perform;
 use bus::memory::Memory;
 use cycle::record::Record;
+use cycle::surroundings::Surroundings;
 use devices::none::NoDevices;
 use dmac::controller::Dmac;
 use queue::Queue;
 use refusal::kinds::Refusal;
 use registers::fault::Fault;
 use script::command::Command;
-use script::lines::{after_line, first_line};
+use script::lines::Lines;
 use script::parse::parse;
 use script::text::{data_count, put_byte, put_newline, put_ok, put_refusal};
 use std::alloc::AllocError;
@@ -32,7 +34,7 @@ use std::alloc::AllocError;
 #[derive(Drop)]
 pub struct Monitor<M: Memory> {
     dmac: Dmac,
-    memory: M,
+    around: Surroundings<M, NoDevices>,
 }
 
 // The most bytes of a script that are read.
@@ -44,25 +46,27 @@ const TRACE: usize = 128;
 impl<M: Memory> Monitor<M> {
     pub fn new(memory: M) -> Monitor<M>
         ensures controller { result.dmac ≡ new_controller }
-        ensures memory { result.memory ≡ memory }
+        ensures memory { result.around.memory ≡ memory }
     {
         Monitor {
             dmac: Dmac::new(),
-            memory,
+            around: Surroundings {
+                memory,
+                devices: NoDevices,
+            },
         }
     }
 
     // Makes a call with devices that are never ready.
-    fn call(&mut self, trace: &mut Queue<'_, Record>, call: Call) -> Reply
-        ensures { record { machine = machine_of self.new.dmac (M.Memory.means self.new.memory) nothing; trace = held trace.new; reply = result } ≡ performed call (capacity_of trace.old) (machine_of self.old.dmac (M.Memory.means self.old.memory) nothing) (held trace.old) }
+    fn call(&mut self, trace: &mut Queue<'_, Record>, call: Call) -> Result<Reply, Refusal>
+        ensures { record { machine = machine_of self.new.dmac (M.Memory.means self.new.around.memory) nothing; trace = held trace.new; reply = result } ≡ performed call (capacity_of trace.old) (machine_of self.old.dmac (M.Memory.means self.old.around.memory) nothing) (held trace.old) }
     {
-        let mut devices = NoDevices;
-        perform(&mut self.dmac, &mut self.memory, &mut devices, trace, call)
+        perform(&mut self.dmac, &mut self.around, trace, call)
     }
 
     // Makes a call that is no run, and prints its reply.
     fn answer(&mut self, call: Call, out: &mut Vec<u8>) -> Result<(), AllocError>
-        ensures { OnOk result (session_of self.new.dmac (M.Memory.means self.new.memory) out.new.items ≡ answered call (session_of self.old.dmac (M.Memory.means self.old.memory) out.old.items)) }
+        ensures { OnOk result (session_at M.Memory.means self.new out.new.items ≡ answered call (session_at M.Memory.means self.old out.old.items)) }
     {
         let mut slots: [Record; 0] = [];
         let mut trace = Queue::new(&mut slots);
@@ -72,46 +76,46 @@ impl<M: Memory> Monitor<M> {
 
     // `W oo vv`
     fn write(&mut self, offset: u8, value: u8, out: &mut Vec<u8>) -> Result<(), AllocError>
-        ensures { OnOk result (session_of self.new.dmac (M.Memory.means self.new.memory) out.new.items ≡ write_done offset value (session_of self.old.dmac (M.Memory.means self.old.memory) out.old.items)) }
+        ensures { OnOk result (session_at M.Memory.means self.new out.new.items ≡ write_done offset value (session_at M.Memory.means self.old out.old.items)) }
     {
         self.answer(Call::WriteByte(offset, value), out)
     }
 
     // `R oo`
     fn read(&mut self, offset: u8, out: &mut Vec<u8>) -> Result<(), AllocError>
-        ensures { OnOk result (session_of self.new.dmac (M.Memory.means self.new.memory) out.new.items ≡ read_done offset (session_of self.old.dmac (M.Memory.means self.old.memory) out.old.items)) }
+        ensures { OnOk result (session_at M.Memory.means self.new out.new.items ≡ read_done offset (session_at M.Memory.means self.old out.old.items)) }
     {
         self.answer(Call::ReadByte(offset), out)
     }
 
     // `F aaaaaa dd..dd`
     fn fill(&mut self, address: u32, digits: &[u8], out: &mut Vec<u8>) -> Result<(), AllocError>
-        ensures { OnOk result (session_of self.new.dmac (M.Memory.means self.new.memory) out.new.items ≡ fill_done address (data_bytes digits.now) (session_of self.old.dmac (M.Memory.means self.old.memory) out.old.items)) }
+        ensures { OnOk result (session_at M.Memory.means self.new out.new.items ≡ fill_done address (data_bytes digits.now) (session_at M.Memory.means self.old out.old.items)) }
     {
         if is_past_the_end(address, data_count(digits)) {
             return put_refusal(out, Refusal::PastTheEnd);
         }
-        if !takes_all(&self.memory, address, digits) {
+        if !takes_all(&self.around.memory, address, digits) {
             return put_refusal(out, Refusal::NoPlace);
         }
-        fill(&mut self.memory, address, digits);
+        fill(&mut self.around.memory, address, digits);
         put_ok(out)
     }
 
     // `M aaaaaa nn`
     fn show(&mut self, address: u32, count: u8, out: &mut Vec<u8>) -> Result<(), AllocError>
-        ensures { OnOk result (session_of self.new.dmac (M.Memory.means self.new.memory) out.new.items ≡ show_done address count (session_of self.old.dmac (M.Memory.means self.old.memory) out.old.items)) }
+        ensures { OnOk result (session_at M.Memory.means self.new out.new.items ≡ show_done address count (session_at M.Memory.means self.old out.old.items)) }
     {
         if is_past_the_end(address, count as usize) {
             return put_refusal(out, Refusal::PastTheEnd);
         }
-        put_area(&self.memory, address, count, out)?;
+        put_area(&self.around.memory, address, count, out)?;
         put_newline(out)
     }
 
     // `S nn`
     fn run_steps(&mut self, steps: u8, out: &mut Vec<u8>) -> Result<(), AllocError>
-        ensures { OnOk result (session_of self.new.dmac (M.Memory.means self.new.memory) out.new.items ≡ run_done steps (session_of self.old.dmac (M.Memory.means self.old.memory) out.old.items)) }
+        ensures { OnOk result (session_at M.Memory.means self.new out.new.items ≡ run_done steps (session_at M.Memory.means self.old out.old.items)) }
     {
         let mut slots = [Record::Error {
             channel: 0,
@@ -124,7 +128,7 @@ impl<M: Memory> Monitor<M> {
 
     // One line of a script.
     fn line(&mut self, line: &[u8], out: &mut Vec<u8>) -> Result<(), AllocError>
-        ensures { OnOk result (session_of self.new.dmac (M.Memory.means self.new.memory) out.new.items ≡ line_done line.now (session_of self.old.dmac (M.Memory.means self.old.memory) out.old.items)) }
+        ensures { OnOk result (session_at M.Memory.means self.new out.new.items ≡ line_done line.now (session_at M.Memory.means self.old out.old.items)) }
     {
         match parse(line) {
             Ok(Command::Write { offset, value }) => self.write(offset, value, out),
@@ -138,13 +142,10 @@ impl<M: Memory> Monitor<M> {
 
     // Carries out the lines of a script one after the other.
     fn carry_out(&mut self, script: &[u8], out: &mut Vec<u8>) -> Result<(), AllocError>
-        ensures { OnOk result (session_of self.new.dmac (M.Memory.means self.new.memory) out.new.items ≡ script_done script.now (session_of self.old.dmac (M.Memory.means self.old.memory) out.old.items)) }
+        ensures { OnOk result (session_at M.Memory.means self.new out.new.items ≡ script_done script.now (session_at M.Memory.means self.old out.old.items)) }
     {
-        let mut rest = beginning(script);
-        while !rest.is_empty() {
-            let line = first_line(rest);
+        for line in Lines::of(beginning(script)) {
             self.line(line, out)?;
-            rest = after_line(rest, line.len());
         }
         Ok(())
     }
@@ -153,8 +154,8 @@ impl<M: Memory> Monitor<M> {
     // history of calls led from a new controller to this one and its memory goes on with the calls of the script, and
     // lawfully (`history`). It fails only for want of memory for `out`.
     pub fn run(&mut self, script: &[u8], out: &mut Vec<u8>) -> Result<(), AllocError>
-        ensures printed { OnOk result (session_of self.new.dmac (M.Memory.means self.new.memory) out.new.items ≡ script_done script.now (session_of self.old.dmac (M.Memory.means self.old.memory) out.old.items)) }
-        ensures history { OnOk result (ScriptGoesOn script.now (session_of self.old.dmac (M.Memory.means self.old.memory) out.old.items) (session_of self.new.dmac (M.Memory.means self.new.memory) out.new.items)) }
+        ensures printed { OnOk result (session_at M.Memory.means self.new out.new.items ≡ script_done script.now (session_at M.Memory.means self.old out.old.items)) }
+        ensures history { OnOk result (ScriptGoesOn script.now (session_at M.Memory.means self.old out.old.items) (session_at M.Memory.means self.new out.new.items)) }
     {
         self.carry_out(script, out)
     }
@@ -164,55 +165,35 @@ impl<M: Memory> Monitor<M> {
 fn beginning<'a>(script: &'a [u8]) -> &'a [u8]
     ensures { result.now ≡ take 16384 script.now }
 {
-    if script.len() > SCRIPT {
-        script.split_at(SCRIPT).0
-    } else {
-        script
-    }
-}
-
-// What a register write replies.
-fn put_done(done: Result<(), Refusal>, out: &mut Vec<u8>) -> Result<(), AllocError>
-    ensures { OnOk result (out.new.items ≡ out.old.items ++ done_text done) }
-{
-    match done {
-        Ok(()) => put_ok(out),
-        Err(refusal) => put_refusal(out, refusal),
-    }
-}
-
-// What a register read replies.
-fn put_value(value: Result<u8, Refusal>, out: &mut Vec<u8>) -> Result<(), AllocError>
-    ensures { OnOk result (out.new.items ≡ out.old.items ++ value_text value) }
-{
-    match value {
-        Ok(byte) => put_byte(out, byte),
-        Err(refusal) => put_refusal(out, refusal),
-    }
+    &script[..SCRIPT.min(script.len())]
 }
 
 // What a call replies that is no run.
-fn put_reply(reply: Reply, out: &mut Vec<u8>) -> Result<(), AllocError>
+fn put_reply(reply: Result<Reply, Refusal>, out: &mut Vec<u8>) -> Result<(), AllocError>
     ensures { OnOk result (out.new.items ≡ out.old.items ++ reply_text reply) }
 {
     match reply {
-        Reply::Done => put_done(Ok(()), out),
-        Reply::Byte(byte) => put_value(Ok(byte), out),
-        Reply::Refused(refusal) => put_refusal(out, refusal),
-        Reply::Word(_) | Reply::Stepped(_) | Reply::Ended(_) => Ok(()),
+        Ok(Reply::Done) => put_ok(out),
+        Ok(Reply::Byte(byte)) => put_byte(out, byte),
+        Ok(Reply::Word(_) | Reply::Stepped(_) | Reply::Ended(_)) => Ok(()),
+        Err(refusal) => put_refusal(out, refusal),
     }
 }
 
 // The records of a run and why it ended, or its refusal.
-fn put_run(reply: Reply, trace: &Queue<'_, Record>, out: &mut Vec<u8>) -> Result<(), AllocError>
+fn put_run(
+    reply: Result<Reply, Refusal>,
+    trace: &Queue<'_, Record>,
+    out: &mut Vec<u8>,
+) -> Result<(), AllocError>
     ensures { OnOk result (out.new.items ≡ out.old.items ++ run_text reply (held trace.now)) }
 {
     match reply {
-        Reply::Ended(ran) => {
+        Ok(Reply::Ended(ran)) => {
             put_records(out, trace)?;
             put_ending(out, ran.ending)
         }
-        Reply::Refused(refusal) => put_refusal(out, refusal),
-        Reply::Byte(_) | Reply::Word(_) | Reply::Done | Reply::Stepped(_) => Ok(()),
+        Ok(Reply::Byte(_) | Reply::Word(_) | Reply::Done | Reply::Stepped(_)) => Ok(()),
+        Err(refusal) => put_refusal(out, refusal),
     }
 }

@@ -1,91 +1,71 @@
 // Printing what a run did.
-ghost use Rattle.std.specs.Prelude.{◌≡◌, ◌++◌, OnOk};
+ghost use Rattle.std.specs.Prelude.{◌≡◌, ◌++◌, OnOk, Some};
 ghost use Rattle.queue.specs.Queue.{held};
-ghost use Rattle.monitor.specs.Records.{kind_letter, data_text, address_text, head_text, record_text, item_text, records_text, ending_text};
+ghost use Rattle.monitor.specs.Records.{data_text, address_text, record_text, records_text, ending_text};
 
-use cycle::record::{Data, Kind, Record};
+use cycle::record::{Data, Record};
 use dmac::run::Ending;
 use queue::Queue;
-use script::text::{hex_pair, put_byte, put_text};
+use script::text::{Hex, put};
 use std::alloc::AllocError;
+use std::fmt;
 
-fn letter(kind: Kind) -> u8
-    ensures { result ≡ kind_letter kind }
-{
-    match kind {
-        Kind::Read => b'R',
-        Kind::Write => b'W',
-        Kind::Entry => b'B',
-    }
-}
+// The data of a cycle, and the end of the line.
+#[derive(Clone, Copy)]
+struct Bytes(Data);
 
-fn put_data(out: &mut Vec<u8>, bytes: Data) -> Result<(), AllocError>
-    ensures { OnOk result (out.new.items ≡ out.old.items ++ data_text bytes) }
-{
-    match bytes {
-        Data::Byte(a) => {
-            let [h, l] = hex_pair(a);
-            put_text(out, &[h, l, b'\n'])
-        }
-        Data::Word(a, b) => {
-            let [h, l] = hex_pair(a);
-            let [k, m] = hex_pair(b);
-            put_text(out, &[h, l, k, m, b'\n'])
+impl fmt::Display for Bytes {
+    ghost output = { λ b. Some (data_text b.0) };
+
+    fn fmt<W: fmt::Write>(&self, f: &mut fmt::Formatter<W>) -> fmt::Result {
+        match self.0 {
+            Data::Byte(a) => write!(f, "{}\n", Hex(a)),
+            Data::Word(a, b) => write!(f, "{}{}\n", Hex(a), Hex(b)),
         }
     }
 }
 
-// The channel, a letter, and a blank after each.
-fn put_head(out: &mut Vec<u8>, channel: u8, letter: u8) -> Result<(), AllocError>
-    ensures { OnOk result (out.new.items ≡ out.old.items ++ head_text channel letter) }
-{
-    let [_, number] = hex_pair(channel);
-    put_text(out, &[number, b' ', letter, b' '])
+// An address, and a blank.
+#[derive(Clone, Copy)]
+struct Address(u32);
+
+impl fmt::Display for Address {
+    ghost output = { λ a. Some (address_text a.0) };
+
+    fn fmt<W: fmt::Write>(&self, f: &mut fmt::Formatter<W>) -> fmt::Result {
+        let [_, high, mid, low] = self.0.to_be_bytes();
+        write!(f, "{}{}{} ", Hex(high), Hex(mid), Hex(low))
+    }
 }
 
-fn put_address(out: &mut Vec<u8>, address: u32) -> Result<(), AllocError>
-    ensures { OnOk result (out.new.items ≡ out.old.items ++ address_text address) }
-{
-    let [a, b] = hex_pair(((address >> 16) % 256) as u8);
-    let [c, d] = hex_pair(((address >> 8) % 256) as u8);
-    let [e, f] = hex_pair((address % 256) as u8);
-    put_text(out, &[a, b, c, d, e, f, b' '])
-}
+// The line of a record.
+#[derive(Clone, Copy)]
+struct Line(Record);
 
-fn put_place(out: &mut Vec<u8>, address: u32, bytes: Data) -> Result<(), AllocError>
-    ensures { OnOk result (out.new.items ≡ out.old.items ++ (address_text address ++ data_text bytes)) }
-{
-    put_address(out, address)?;
-    put_data(out, bytes)
-}
+impl fmt::Display for Line {
+    ghost output = { λ l. Some (record_text l.0) };
 
-fn put_cycle(
-    out: &mut Vec<u8>,
-    channel: u8,
-    letter: u8,
-    address: u32,
-    bytes: Data,
-) -> Result<(), AllocError>
-    ensures { OnOk result (out.new.items ≡ out.old.items ++ (head_text channel letter ++ (address_text address ++ data_text bytes))) }
-{
-    put_head(out, channel, letter)?;
-    put_place(out, address, bytes)
-}
-
-fn put_record(out: &mut Vec<u8>, told: Record) -> Result<(), AllocError>
-    ensures { OnOk result (out.new.items ≡ out.old.items ++ record_text told) }
-{
-    match told {
-        Record::Cycle {
-            channel,
-            kind,
-            code: _,
-            address,
-            data,
-        } => put_cycle(out, channel, letter(kind), address, data),
-        Record::Error { channel, fault } => {
-            put_head(out, channel, b'F')?;
-            put_byte(out, fault.code())
+    fn fmt<W: fmt::Write>(&self, f: &mut fmt::Formatter<W>) -> fmt::Result {
+        match self.0 {
+            Record::Cycle {
+                channel,
+                kind,
+                code: _,
+                address,
+                data,
+            } => {
+                let letter = char::from(kind.letter());
+                write!(
+                    f,
+                    "{:X} {letter} {}{}",
+                    channel % 16,
+                    Address(address),
+                    Bytes(data)
+                )
+            }
+            Record::Error { channel, fault } => {
+                write!(f, "{:X} F {}\n", channel % 16, Hex(fault.code()))
+            }
         }
     }
 }
@@ -94,19 +74,10 @@ pub(crate) fn put_ending(out: &mut Vec<u8>, ending: Ending) -> Result<(), AllocE
     ensures { OnOk result (out.new.items ≡ out.old.items ++ ending_text ending) }
 {
     match ending {
-        Ending::Done => put_text(out, b"done\n"),
-        Ending::Idle => put_text(out, b"idle\n"),
-        Ending::Waiting => put_text(out, b"waiting\n"),
-        Ending::Full => put_text(out, b"full\n"),
-    }
-}
-
-fn put_item(out: &mut Vec<u8>, item: Option<Record>) -> Result<(), AllocError>
-    ensures { OnOk result (out.new.items ≡ out.old.items ++ item_text item) }
-{
-    match item {
-        Some(told) => put_record(out, told),
-        None => put_text(out, b""),
+        Ending::Done => put(out, "done\n"),
+        Ending::Idle => put(out, "idle\n"),
+        Ending::Waiting => put(out, "waiting\n"),
+        Ending::Full => put(out, "full\n"),
     }
 }
 
@@ -114,8 +85,8 @@ fn put_item(out: &mut Vec<u8>, item: Option<Record>) -> Result<(), AllocError>
 pub(crate) fn put_records(out: &mut Vec<u8>, trace: &Queue<'_, Record>) -> Result<(), AllocError>
     ensures { OnOk result (out.new.items ≡ out.old.items ++ records_text (held trace.now)) }
 {
-    for i in 0..trace.len() {
-        put_item(out, trace.get(i))?;
+    for told in trace.iter() {
+        put(out, Line(*told))?;
     }
     Ok(())
 }

@@ -2,5 +2,5 @@
 use Rattle.std.proofs.Common.{append_assoc, rules}
 use Rattle.monitor.proofs.monitor.put_run.Goals as goal
 
-pub returns-in_ok-put_records-in-Ended : goal.returns-in_ok-put_records-in-Ended
-returns-in_ok-put_records-in-Ended c = search (rules, append_assoc)
+pub returns-in_ok-put_records-in-Ok-Ended : goal.returns-in_ok-put_records-in-Ok-Ended
+returns-in_ok-put_records-in-Ok-Ended c = search (rules, append_assoc)
