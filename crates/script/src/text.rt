@@ -95,7 +95,8 @@ impl fmt::Display for Hex {
 pub fn put<D: fmt::Display + Drop>(out: &mut Vec<u8>, text: D) -> Result<(), AllocError>
     ensures { OnOk result (AppendsText out.old.items out.new.items (D.output text)) }
 {
-    out.write_fmt(text).map_err(|_| AllocError)
+    let text = text.to_string(*out.allocator())?;
+    out.extend_from_slice(text.as_bytes())
 }
 
 // Adds bytes to what `out` holds.
