@@ -1,10 +1,10 @@
 -- Small facts about lists and tests.
-use Rattle.std.proofs.Common.{◌≡◌, ℕ, ◌+◌, ◌<◌, Bool, true, false, cond, eqb, List, [], ◌∷◌, ◌++◌, length, get_or, set, sym, refl, ap, ◌∙◌, subst, ap₂, inl, inr, arith, length-append, get_or-set_other, get_or-set_same}
-use Rattle.std.proofs.lemmas.Bool.{eqb-true, eqb-false}
+use Rattle.std.proofs.Common.{◌≡◌, ℕ, ◌+◌, ◌<◌, Bool, true, false, cond, eqb, List, [], ◌∷◌, ◌++◌, length, get_or, set, sym, refl, ap, ◌∙◌, subst, ap₂, inl, inr, length-append, get_or-set_other, get_or-set_same}
+use Rattle.std.proofs.lemmas.Bool.{eqb-true, eqb-false, false≢true}
 use Rattle.audit.specs.Law.{SomeOf, EachOf}
 
 pub no : {A : Type 0} → false ≡ true → A
-no e = let z : ◌≡◌ {A = ℕ} 0 1 = cc in absurd (omega arith)
+no e = absurd (false≢true e)
 
 module _ {A : Type 0} where
   pub some_left : (P : A → Type 0) (xs ys : List A) → SomeOf P xs → SomeOf P (xs ++ ys)
@@ -35,14 +35,7 @@ module _ {A : Type 0} where
 -- The same without the test.
 pub at_set_alone : {A : Type 0} (P : A → Type 0) (l : List A) (n d : ℕ) (x z : A) → d < length l
     → (n ≡ d → P x) → P (get_or l d z) → P (get_or (set l n x) d z)
-at_set_alone {A} P l n d x z h k other = go (eqb n d) refl
-  where
-    go : (t : Bool) → eqb n d ≡ t → P (get_or (set l n x) d z)
-    go true e =
-        let s : n ≡ d = eqb-true n d e in
-        let i : n < length l = subst (λ (j : ℕ). j < length l) (sym s) h in
-        subst P (sym (ap (λ (j : ℕ). get_or (set l n x) j z) (sym s) ∙ get_or-set_same l n x z i)) (k s)
-    go false e = subst P (sym (get_or-set_other l n d x z (λ s. eqb-false n d e (sym s)))) other
+at_set_alone {A} P l n d x z h k other = at_set (λ (y : A) (b : Bool). P y) l n d x z true true h k other
 
 pub length_join : {A B : Type 0} (s t : List A) (u v : List B) → length s ≡ length u → length t ≡ length v → length (s ++ t) ≡ length (u ++ v)
 length_join s t u v p q = length-append s t ∙ ap₂ (λ (a b : ℕ). a + b) p q ∙ sym (length-append u v)

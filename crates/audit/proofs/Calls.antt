@@ -1,8 +1,9 @@
 -- Every call keeps the invariant of every channel.
-use Rattle.std.proofs.Common.{◌≡◌, ℕ, zero, suc, ◌+◌, ◌/◌, ◌%◌, ◌<◌, Bool, true, false, cond, ◌&&◌, eqb, ltb, List, [], ◌∷◌, length, get_or, set, Some, None, Err, Option, sym, refl, ap, ◌∙◌, subst, arith, length-set}
+use Rattle.std.proofs.Common.{◌≡◌, ℕ, zero, suc, ◌+◌, ◌/◌, ◌%◌, ◌<◌, Bool, true, false, cond, ◌&&◌, eqb, ltb, List, [], ◌∷◌, length, get_or, set, Some, None, Option, sym, refl, ap, ◌∙◌, subst, arith, length-set}
+use Rattle.std.proofs.lemmas.Bool.{cond_both}
 use lib.Bits.{bit_and}
 use Rattle.refusal.specs.declared.kinds.Refusal.{Refusal}
-use Rattle.refusal.specs.declared.kinds.Refusal.TheVariants.{NoRegister, OddWord, StartByWord, NoChannel, NoException}
+use Rattle.refusal.specs.declared.kinds.Refusal.TheVariants.{NoRegister, OddWord, StartByWord, NoChannel}
 use Rattle.registers.specs.Bits.{any, odd}
 use Rattle.registers.specs.Checks.{check}
 use Rattle.registers.specs.Config.{is_chained}
@@ -21,8 +22,8 @@ use Rattle.dmac.specs.declared.controller.Dmac.{Dmac}
 use Rattle.dmac.specs.Controller.{new_controller, channel_at}
 use Rattle.dmac.specs.Access.{register_of, register_after, reach_of, reach_after, is_nowhere, is_general, is_control, is_no_word, starts_by_word, word_refusal, refused, accepted, taken_in, word_taken_in, word_written_by}
 use Rattle.dmac.specs.Choice.{chosen}
-use Rattle.dmac.specs.Step.{Machine, called as step_ok, step_reset, step_chosen, is_exception}
-use Rattle.audit.specs.Calls.{Call, ReadByte, ReadWord, WriteByte, WriteWord, SetLine, Step, Store, Called, done_reply, step_reply, with_dmac, byte_write_called, word_write_called, line_called, step_called, store_called}
+use Rattle.dmac.specs.Step.{Machine}
+use Rattle.audit.specs.Calls.{Call, ReadByte, ReadWord, WriteByte, WriteWord, SetLine, Step, Store, Called, Stepped, done_replied, replied, with_dmac, byte_write_called, word_write_called, line_called, step_called, store_called}
 use Rattle.audit.specs.Book.{Book, half_noted, is_done, step_noted, call_noted, settled_before, book_fed}
 use Rattle.audit.specs.History.{Past, beginning, registers_of, noted}
 use Rattle.audit.proofs.Basics.{no, at_set_alone}
@@ -30,11 +31,7 @@ use Rattle.audit.proofs.Inv.{InvX, inv_settled}
 use Rattle.audit.proofs.Writes.{passes}
 use Rattle.audit.proofs.Words.{Calm, byte_inv, word_inv}
 use Rattle.audit.proofs.Map.{not_barred, even_no_control, before_general, general_barred, register_low, reach_low, even_within}
-use Rattle.audit.proofs.Steps.{Kept, within, channel_goes, chosen_goes, reset_goes}
-
-cond_same : {A : Type 0} (t : Bool) (x : A) → cond t x x ≡ x
-cond_same true x = refl
-cond_same false x = refl
+use Rattle.audit.proofs.Steps.{Kept, step_cases, within, channel_goes, chosen_goes, reset_goes}
 
 -- The registers of the channel that a write reaches, and the books of a write into it.
 abbrev act : Dmac → ℕ → Bool
@@ -53,7 +50,7 @@ general_goes s B i F k e f g = record {
   four = ap length e ∙ g.four;
   each = λ n h.
       subst (λ (l : List Channel). InvX (get_or l n blank_channel) (cond (eqb i n) (F (registers_of n s) (B n)) (B n))) (sym e)
-      (subst (λ (b : Book). InvX (channel_at n s.dmac) b) (sym (ap (λ (y : Book). cond (eqb i n) y (B n)) (f (registers_of n s) (B n)) ∙ cond_same (eqb i n) (B n))) (g.each n h));
+      (subst (λ (b : Book). InvX (channel_at n s.dmac) b) (sym (ap (λ (y : Book). cond (eqb i n) y (B n)) (f (registers_of n s) (B n)) ∙ cond_both (eqb i n) _ _ (λ (y : Book). y ≡ B n) (λ _. refl) (λ _. refl))) (g.each n h));
 }
 
 -- A write into channel i: of the general control register, or of the channel's own.
@@ -81,7 +78,7 @@ byte_goes : (o v : ℕ) (s : Machine) (B : ℕ → Book) → Kept s B
 byte_goes o v s B g = go (is_nowhere (register_of o))
   where
     go : (t : Bool) → Kept (with_dmac (cond t (refused NoRegister s.dmac) (accepted (taken_in (o / 64) Nowhere 0 (reach_of o s.dmac) v s.dmac))).state s)
-        (λ n. cond (is_done (done_reply (cond t (refused NoRegister s.dmac) (accepted (taken_in (o / 64) Nowhere 0 (reach_of o s.dmac) v s.dmac))).answer) && eqb (o / 64) n) (half_noted (register_of o) v (registers_of n s) (B n)) (B n))
+        (λ n. cond (is_done (done_replied (cond t (refused NoRegister s.dmac) (accepted (taken_in (o / 64) Nowhere 0 (reach_of o s.dmac) v s.dmac))).answer) && eqb (o / 64) n) (half_noted (register_of o) v (registers_of n s) (B n)) (B n))
     go true = record { four = g.four; each = g.each }
     go false =
         taken_goes (o / 64) Nowhere (reach_of o s.dmac) 0 v (λ r b. half_noted (register_of o) v r b) s B g
@@ -119,7 +116,7 @@ word_goes o v s B g = go (word_refusal o (starts_by_word o v)) refl
   where
     go : (f : Option Refusal) → word_refusal o (starts_by_word o v) ≡ f
         → Kept (with_dmac (word_written_by f o v s.dmac).state s)
-        (λ n. cond (is_done (done_reply (word_written_by f o v s.dmac).answer) && eqb (o / 64) n) (half_noted (register_after o) (v % 256) (registers_of n s) (half_noted (register_of o) (v / 256) (registers_of n s) (B n))) (B n))
+        (λ n. cond (is_done (done_replied (word_written_by f o v s.dmac).answer) && eqb (o / 64) n) (half_noted (register_after o) (v % 256) (registers_of n s) (half_noted (register_of o) (v / 256) (registers_of n s) (B n))) (B n))
     go (Some f) e = record { four = g.four; each = g.each }
     go None e =
         let p = passes (check (is_no_word o) NoRegister ∷ check (odd o) OddWord ∷ check (starts_by_word o v) StartByWord ∷ []) e in
@@ -140,13 +137,9 @@ line_goes n on s B g = go (ltb n 4)
 -- A step.
 step_goes : (code : ℕ) (done : Bool) (s : Machine) (B : ℕ → Book) → Kept s B
     → Kept (step_called code done s).machine (λ n. step_noted (step_called code done s).reply n (registers_of n s) (B n))
-step_goes code done s B g = go (is_exception code) (eqb code 0)
-  where
-    go : (t u : Bool) → Kept (cond t (cond u (step_ok (step_reset s)) (step_ok (step_chosen (chosen s.dmac) code done s))) (record { machine = s; answer = Err NoException })).machine
-        (λ n. step_noted (step_reply (cond t (cond u (step_ok (step_reset s)) (step_ok (step_chosen (chosen s.dmac) code done s))) (record { machine = s; answer = Err NoException })).answer) n (registers_of n s) (B n))
-    go true true = reset_goes s B g
-    go true false = chosen_goes (chosen s.dmac) code done s B refl g
-    go false u = record { four = g.four; each = g.each }
+step_goes code done s B g =
+    step_cases code done s (λ y. Kept y.machine (λ n. step_noted (replied Stepped y.answer) n (registers_of n s) (B n)))
+    (reset_goes s B g) (chosen_goes (chosen s.dmac) code done s B refl g) (record { four = g.four; each = g.each })
 
 -- The books before the call, with nothing gathered where the channel is not active.
 pub settled_kept : (s : Machine) (B : ℕ → Book) → Kept s B → Kept s (λ n. settled_before (registers_of n s) (B n))

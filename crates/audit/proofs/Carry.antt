@@ -1,5 +1,6 @@
 -- A carried-out cycle of an operand keeps the invariant.
 use Rattle.std.proofs.Common.{◌≡◌, ℕ, suc, ◌+◌, ◌-◌, Bool, true, false, cond, eqb, List, [], ◌∷◌, ◌++◌, length, drop, sym, refl, ap, ◌∙◌, subst, ap₂, append_assoc, append-nil, add-one, arith, length-append}
+use Rattle.std.proofs.lemmas.List.{nil_from_length}
 use Rattle.std.proofs.lemmas.Bool.{eqb-true, eq-eqb, ne_eqb, and_parts}
 use Rattle.registers.specs.Config.{is_single, is_inward, is_misplaced, size_of, bytes_of, next_mar, next_dar}
 use Rattle.registers.specs.Status.{is_active}
@@ -150,8 +151,7 @@ paired_length (f ∷ fs) (t ∷ ts) e = ap (λ (n : ℕ). suc n) (paired_length 
 
 none_held : (si i : Bool) (hs : List ℕ) → runs si i (length hs) [] ≡ true → hs ≡ []
 unfolding runs
-none_held si i [] e = refl
-none_held si i (x ∷ xs) e = let z = eqb-true (length (x ∷ xs)) 0 e in absurd (omega arith)
+none_held si i hs e = nil_from_length hs (eqb-true (length hs) 0 e)
 
 sub_one : (n : ℕ) → suc n - 1 ≡ n
 sub_one n = omega arith

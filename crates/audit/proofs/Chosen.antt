@@ -28,13 +28,10 @@ inside_active x q e = go (is_active x.registers.status) q
     go true f = refl
     go false f = no (ap is_inside_phase (sym (f refl)) ∙ e)
 
-some_is : (c n : ℕ) → Some c ≡ Some n → c ≡ n
-some_is c n e = cc
-
 -- One rung of a ladder.
 rung : {P : Type 0} (t : Bool) (c n : ℕ) (rest other : Option ℕ) → (t ≡ true → c ≡ n → P) → (or_else rest other ≡ Some n → P)
     → or_else (cond t (Some c) rest) other ≡ Some n → P
-rung true c n rest other f g e = f refl (some_is c n e)
+rung true c n rest other f g e = f refl cc
 rung false c n rest other f g e = g e
 
 counts_at : (k : Dmac) (c : ℕ) → c < 4 → get_or (counting_of k) c false ≡ true → is_counting (channel_at c k) ≡ true

@@ -1,7 +1,6 @@
 -- What every step answers of a cycle is true.
-use Rattle.std.proofs.Common.{◌≡◌, ℕ, ◌+◌, ◌<◌, Bool, true, false, cond, eqb, leb, List, ◌∷◌, ◌++◌, length, drop, Some, None, Err, Option, sym, refl, ap, ◌∙◌, subst, append-nil, arith}
+use Rattle.std.proofs.Common.{◌≡◌, ℕ, ◌+◌, ◌<◌, Bool, true, false, cond, leb, List, ◌∷◌, ◌++◌, length, drop, Some, None, Option, sym, refl, ap, ◌∙◌, subst, append-nil, arith}
 use Rattle.std.proofs.lemmas.Bool.{and_parts}
-use Rattle.refusal.specs.declared.kinds.Refusal.TheVariants.{NoException}
 use Rattle.registers.specs.Config.{is_single, is_inward}
 use Rattle.registers.specs.Status.{is_active}
 use Rattle.registers.specs.declared.groups.Config.{Config}
@@ -23,8 +22,8 @@ use Rattle.dmac.specs.declared.answer.Answer.{Answer}
 use Rattle.dmac.specs.declared.answer.Answer.TheVariants.{Reset, Idle, Halted, Retry, Waiting, Recorded}
 use Rattle.dmac.specs.Controller.{channel_at}
 use Rattle.dmac.specs.Choice.{chosen}
-use Rattle.dmac.specs.Step.{Machine, Stepped as StepDone, called as step_ok, step_made, step_chosen, step_on, step_reset, is_exception}
-use Rattle.audit.specs.Calls.{step_reply, step_called}
+use Rattle.dmac.specs.Step.{Machine, Stepped as StepDone, step_made, step_chosen, step_on}
+use Rattle.audit.specs.Calls.{Stepped, replied, step_called}
 use Rattle.audit.specs.Book.{Book, bytes_told, places_read, places_written}
 use Rattle.audit.specs.Truth.{Carried, CycleTrue, AnswerTrue, ReplyTrue, device_bytes}
 use Rattle.audit.proofs.Plan.{runs}
@@ -32,7 +31,7 @@ use Rattle.audit.proofs.Inv.{held_list, InvX, Operating}
 use Rattle.audit.proofs.Flow.{Slotted, slotted, length_got}
 use Rattle.audit.proofs.Outcome.{Silent, Outcome, quiet, failed, moved, fetched, Moved, Fetched, cycle_record, slot_made, operating, entry_made, entry_record, step_is}
 use Rattle.audit.proofs.Chosen.{Serves}
-use Rattle.audit.proofs.Steps.{Kept, serves, found}
+use Rattle.audit.proofs.Steps.{step_cases, Kept, serves, found}
 use Rattle.audit.proofs.Truth.{gave_true, has_true, word_holds}
 
 -- A cycle of an operand is told as a read or a write.
@@ -157,10 +156,5 @@ chosen_true None code done s B e g = tt
 chosen_true (Some n) code done s B e g = outcome_true s B n (step_on n code done s) g (serves s B n g e) (step_is n code done s)
 
 pub step_true : (code : ℕ) (done : Bool) (s : Machine) (B : ℕ → Book) → Kept s B → ReplyTrue (step_called code done s).reply s (step_called code done s).machine
-step_true code done s B g = go (is_exception code) (eqb code 0)
-  where
-    go : (t u : Bool) → ReplyTrue (step_reply (cond t (cond u (step_ok (step_reset s)) (step_ok (step_chosen (chosen s.dmac) code done s))) (record { machine = s; answer = Err NoException })).answer) s
-        (cond t (cond u (step_ok (step_reset s)) (step_ok (step_chosen (chosen s.dmac) code done s))) (record { machine = s; answer = Err NoException })).machine
-    go true true = tt
-    go true false = chosen_true (chosen s.dmac) code done s B refl g
-    go false u = tt
+step_true code done s B g =
+    step_cases code done s (λ y. ReplyTrue (replied Stepped y.answer) s y.machine) tt (chosen_true (chosen s.dmac) code done s B refl g) tt

@@ -1,6 +1,6 @@
 -- An error is confined to its channel, which after a bus error stands at the operand or the entry.
-use Rattle.std.proofs.Common.{◌≡◌, ℕ, zero, suc, ◌+◌, ◌<◌, Bool, true, false, cond, eqb, ◌⊎◌, length, Some, None, Err, Option, sym, refl, ap, ◌∙◌, subst, inl, inr, ⊎_elim, add-one, arith, length-append, get_or-set_other, get_or-set_same}
-use Rattle.refusal.specs.declared.kinds.Refusal.TheVariants.{NoException}
+use Rattle.std.proofs.Common.{◌≡◌, ℕ, zero, suc, ◌+◌, ◌<◌, Bool, true, ◌⊎◌, length, Some, None, Ok, Option, Result, sym, refl, ap, ◌∙◌, subst, inl, inr, ⊎_elim, add-one, arith, length-append, get_or-set_other, get_or-set_same}
+use Rattle.refusal.specs.declared.kinds.Refusal.{Refusal}
 use Rattle.registers.specs.Config.{next_mar, next_dar}
 use Rattle.registers.specs.Status.{is_active}
 use Rattle.registers.specs.declared.fault.Fault.{Fault}
@@ -12,16 +12,16 @@ use Rattle.dmac.specs.declared.answer.Answer.{Answer}
 use Rattle.dmac.specs.declared.answer.Answer.TheVariants.{Recorded}
 use Rattle.dmac.specs.Controller.{channel_at}
 use Rattle.dmac.specs.Choice.{chosen}
-use Rattle.dmac.specs.Step.{Machine, Stepped as StepDone, called as step_ok, step_failed, step_chosen, step_on, step_reset, is_exception}
+use Rattle.dmac.specs.Step.{Machine, Stepped as StepDone, step_failed, step_chosen, step_on}
 use Rattle.audit.specs.Operand.{operand, operands}
-use Rattle.audit.specs.Calls.{Step, Stepped, step_reply, step_called}
+use Rattle.audit.specs.Calls.{Step, Reply, Stepped, replied, step_called}
 use Rattle.audit.specs.Book.{Book, answer_noted, settled_before, book_fed}
 use Rattle.audit.specs.History.{Past, registers_of, stepped, noted}
 use Rattle.audit.specs.Law.{Stands, TouchesOnly, word_addresses}
 use Rattle.audit.proofs.Inv.{words_list, InvX, reading_chained}
 use Rattle.audit.proofs.Outcome.{Silent, Outcome, quiet, failed, moved, fetched, InOperand, InEntry, operating, entering, step_is}
 use Rattle.audit.proofs.Chosen.{Serves}
-use Rattle.audit.proofs.Steps.{Kept, within, serves}
+use Rattle.audit.proofs.Steps.{step_cases, Kept, within, serves}
 use Rattle.audit.proofs.Calls.{settled_kept}
 
 addresses_length : (bar n : ℕ) → length (word_addresses bar n) ≡ n
@@ -107,25 +107,22 @@ outcome_struck s B d o n f g v (failed m) e =
 
 chosen_struck : (h : Option ℕ) (code : ℕ) (done : Bool) (s : Machine) (B : ℕ → Book) (n : ℕ) (f : Fault) → chosen s.dmac ≡ h → Kept s B
     → (step_chosen h code done s).answer ≡ Recorded (Error n f) → Struck s B (step_chosen h code done s) n f
-chosen_struck None code done s B n f q g e = let z : ◌≡◌ {A = ℕ} 0 1 = cc in absurd (omega arith)
+chosen_struck None code done s B n f q g e = absurd cc
 chosen_struck (Some d) code done s B n f q g e = outcome_struck s B d (step_on d code done s) n f g (serves s B d g q) (step_is d code done s) e
 
-stepped_is : (a b : Answer) → Stepped a ≡ Stepped b → a ≡ b
-stepped_is a b e = cc
-
 pub errors_touch : (code : ℕ) (done : Bool) (n : ℕ) (f : Fault) (p : Past) → Kept p.machine p.books
-    → (step_called code done p.machine).reply ≡ Stepped (Recorded (Error n f)) → TouchesOnly n f p (stepped code done p)
+    → (step_called code done p.machine).reply ≡ Ok (Stepped (Recorded (Error n f))) → TouchesOnly n f p (stepped code done p)
 unfolding book_fed
-errors_touch code done n f p g e = go (is_exception code) (eqb code 0) e
+errors_touch code done n f p g e =
+    step_cases code done p.machine
+    (λ y. replied Stepped y.answer ≡ Ok (Stepped (Recorded (Error n f))) → TouchesOnly n f p (noted (Step code done) (record { machine = y.machine; reply = replied Stepped y.answer }) p))
+    (λ q. absurd cc) chosen_one (λ q. absurd cc) e
   where
-    go : (t u : Bool)
-        → step_reply (cond t (cond u (step_ok (step_reset p.machine)) (step_ok (step_chosen (chosen p.machine.dmac) code done p.machine))) (record { machine = p.machine; answer = Err NoException })).answer ≡ Stepped (Recorded (Error n f))
+    chosen_one : ◌≡◌ {A = Result Reply Refusal} (Ok (Stepped (step_chosen (chosen p.machine.dmac) code done p.machine).answer)) (Ok (Stepped (Recorded (Error n f))))
         → TouchesOnly n f p (noted (Step code done) (record {
-          machine = (cond t (cond u (step_ok (step_reset p.machine)) (step_ok (step_chosen (chosen p.machine.dmac) code done p.machine))) (record { machine = p.machine; answer = Err NoException })).machine;
-          reply = step_reply (cond t (cond u (step_ok (step_reset p.machine)) (step_ok (step_chosen (chosen p.machine.dmac) code done p.machine))) (record { machine = p.machine; answer = Err NoException })).answer;
+          machine = (step_chosen (chosen p.machine.dmac) code done p.machine).machine;
+          reply = Ok (Stepped (step_chosen (chosen p.machine.dmac) code done p.machine).answer);
         }) p)
-    go false u q = let z : ◌≡◌ {A = ℕ} 0 1 = cc in absurd (omega arith)
-    go true true q = let z : ◌≡◌ {A = ℕ} 0 1 = cc in absurd (omega arith)
-    go true false q =
-        let k = chosen_struck (chosen p.machine.dmac) code done p.machine (λ d. settled_before (registers_of d p.machine) (p.books d)) n f refl (settled_kept p.machine p.books g) (stepped_is _ _ q) in
+    chosen_one q =
+        let k = chosen_struck (chosen p.machine.dmac) code done p.machine (λ d. settled_before (registers_of d p.machine) (p.books d)) n f refl (settled_kept p.machine p.books g) cc in
         record { is_channel = k.is_channel; others = k.others; stands = k.stands }

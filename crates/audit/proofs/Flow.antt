@@ -1,5 +1,6 @@
 -- What a cycle of the plan gives, writes and leaves held.
 use Rattle.std.proofs.Common.{◌≡◌, ℕ, zero, suc, ◌+◌, ◌-◌, ◌<◌, ◌≤◌, Bool, true, false, List, [], ◌∷◌, ◌++◌, length, Some, None, Option, sym, refl, ap, ◌∙◌, subst, append_assoc, append-nil, arith, length-append}
+use Rattle.std.proofs.lemmas.List.{nil_from_length}
 use Rattle.std.proofs.lemmas.Bool.{eqb-true, leb-true, ltb-true, and_parts}
 use Rattle.registers.specs.declared.groups.Config.{Config}
 use Rattle.bus.specs.Memory.{MemoryMeaning, byte_read, word_read}
@@ -127,10 +128,6 @@ single_written : (k : Config) (i : Bool) (kind : Kind) (f a n : ℕ) → length 
 single_written k true kind f a n = length_from (in_memory f) a n
 single_written k false kind f a n = length_bare n
 
-none_held : (l : List ℕ) → length l ≡ 0 → l ≡ []
-none_held [] e = refl
-none_held (x ∷ xs) e = absurd (omega arith)
-
 pub flow_on : (k : Config) (si i : Bool) (y : Way) (s : Side) (w : Bool) (f a : ℕ) (qs : List Slot) (v : Data) (h : Held) (wrote gave : List ℕ)
     → Slotted si i (length (held_list h)) y s (count_of w) qs → length (bytes_told v) ≡ count_of w → (y ≡ Destination → v ≡ held_first w h)
     → wrote ++ held_list h ≡ gave
@@ -165,7 +162,7 @@ flow_on k false i Destination s w f a qs v h wrote gave t l d e =
     }
 flow_on k true i Through s w f a qs v h wrote gave t l d e =
     let p = and_parts _ _ t.rest in
-    let z : held_list h ≡ [] = none_held (held_list h) (eqb-true (length (held_list h)) 0 p.0) in
+    let z : held_list h ≡ [] = nil_from_length (held_list h) (eqb-true (length (held_list h)) 0 p.0) in
     let g : wrote ≡ gave = sym (append-nil wrote) ∙ ap (λ (x : List ℕ). wrote ++ x) (sym z) ∙ e in
     record {
       flow = ap (λ (x : List ℕ). (wrote ++ bytes_told v) ++ x) z ∙ append-nil (wrote ++ bytes_told v) ∙ ap (λ (x : List ℕ). x ++ bytes_told v) g;

@@ -1,5 +1,6 @@
 -- The list of all operands that were ever named only grows.
-use Rattle.std.proofs.Common.{◌≡◌, ℕ, zero, suc, ◌-◌, ◌/◌, ◌%◌, Bool, true, false, cond, ◌&&◌, eqb, List, [], ◌∷◌, ◌++◌, length, Some, None, Option, sym, refl, ap, ◌∙◌, append_assoc, append-nil}
+use Rattle.std.proofs.Common.{◌≡◌, ℕ, zero, suc, ◌-◌, ◌/◌, ◌%◌, Bool, true, false, cond, ◌&&◌, eqb, List, [], ◌∷◌, ◌++◌, length, Some, None, Ok, Err, Option, Result, sym, refl, ap, ◌∙◌, append_assoc, append-nil}
+use Rattle.refusal.specs.declared.kinds.Refusal.{Refusal}
 use Rattle.registers.specs.Bits.{any}
 use Rattle.registers.specs.Config.{chain_of, size_of, bytes_of}
 use Rattle.registers.specs.Control.{is_continuing}
@@ -21,8 +22,8 @@ use Rattle.dmac.specs.declared.answer.Answer.{Answer}
 use Rattle.dmac.specs.declared.answer.Answer.TheVariants.{Reset, Idle, Halted, Retry, Waiting, Recorded}
 use Rattle.dmac.specs.Access.{register_of, register_after}
 use Rattle.audit.specs.Operand.{Operand}
-use Rattle.audit.specs.Calls.{Call, ReadByte, ReadWord, WriteByte, WriteWord, SetLine, Step, Store, Run, Reply, Byte, Word, Done, Stepped, Ended, Refused}
-use Rattle.audit.specs.Book.{Book, Gathered, nothing_gathered, with_gathered, recounted, start_noted, control_noted, register_noted, half_noted, block_named, gathered_more, operand_added, block_continued, delivery_noted, operand_noted, move_noted, entry_noted, cycle_noted, word_told, word_noted, words_of_entry, entry_address, entry_count, next_entry, with_entry, bytes_told, record_noted, answer_noted, step_noted, is_done, call_noted, settled_before, book_fed}
+use Rattle.audit.specs.Calls.{Call, ReadByte, ReadWord, WriteByte, WriteWord, SetLine, Step, Store, Run, Reply, Byte, Word, Done, Stepped, Ended}
+use Rattle.audit.specs.Book.{Book, nothing_gathered, with_gathered, recounted, start_noted, control_noted, register_noted, half_noted, block_named, gathered_more, operand_added, block_continued, delivery_noted, operand_noted, move_noted, entry_noted, cycle_noted, word_told, word_noted, words_of_entry, entry_address, entry_count, next_entry, with_entry, bytes_told, record_noted, answer_noted, step_noted, is_done, call_noted, settled_before, book_fed}
 
 abbrev pub Grows : Book → Book → Type 0
 Grows b b' = (more : List Operand) × (b'.ever ≡ b.ever ++ more)
@@ -45,12 +46,9 @@ control_grows : (v : ℕ) (r : Registers) (b : Book) → Grows b (control_noted 
 control_grows v r b =
     either (any 0x10 v) b b _ (still b) (either (any 0x80 v) b (start_noted (start_fault (any 0x40 v) r) r b) b (start_grows (start_fault (any 0x40 v) r) r b) (still b))
 
-recount_grows : (b : Book) → Grows b (recounted b)
-recount_grows b = ([], sym (append-nil b.ever))
-
 register_grows : (x : Register) (v : ℕ) (r : Registers) (b : Book) → Grows b (register_noted x v r b)
 register_grows Ccr v r b = control_grows v r b
-register_grows (Mtc k) v r b = either (is_active r.status) b b (recounted b) (still b) (recount_grows b)
+register_grows (Mtc k) v r b = either (is_active r.status) b b (recounted b) (still b) (still b)
 register_grows Csr v r b = still b
 register_grows Cer v r b = still b
 register_grows Dcr v r b = still b
@@ -86,7 +84,7 @@ continue_grows zero Linked t r b = still b
 
 added_grows : (r : Registers) (b : Book) → Grows b (operand_added r b)
 unfolding operand_added
-added_grows r b = ([], sym (append-nil b.ever))
+added_grows r b = still b
 
 delivery_grows : (t : Bool) (r : Registers) (b : Book) → Grows b (delivery_noted t r b)
 delivery_grows false r b = still b
@@ -94,18 +92,15 @@ delivery_grows true r b =
     twice b (operand_added r b) (delivery_noted true r b) (added_grows r b)
     (continue_grows (r.counters.mtc - 1) (chain_of r.config) (is_continuing r.control) r (operand_added r b))
 
-gathered_grows : (g : Gathered) (b : Book) → Grows b (with_gathered g b)
-gathered_grows g b = ([], sym (append-nil b.ever))
-
 move_grows : (k : Kind) (f a : ℕ) (vs : List ℕ) (r : Registers) (b : Book) → Grows b (move_noted k f a vs r b)
 move_grows k f a vs r b =
     let c = with_gathered (gathered_more k f a vs r.config b.gathered) b in
-    twice b c (operand_noted r c) (gathered_grows (gathered_more k f a vs r.config b.gathered) b)
+    twice b c (operand_noted r c) (still b)
     (delivery_grows (eqb (length c.gathered.tos) (bytes_of (size_of r.config))) r c)
 
 entry_grows : (t : Bool) (k : Chain) (ws : List ℕ) (a : ℕ) (r : Registers) (b : Book) → Grows b (entry_noted t k ws a r b)
 entry_grows true k ws a r b = block_grows r.counters.mfc (entry_address ws) (entry_count ws) r (with_entry (next_entry k ws b.entry_at) b)
-entry_grows false k ws a r b = ([], sym (append-nil b.ever))
+entry_grows false k ws a r b = still b
 
 word_grows : (a : ℕ) (vs : List ℕ) (r : Registers) (b : Book) → Grows b (word_noted a vs r b)
 word_grows a vs r b =
@@ -129,15 +124,15 @@ answer_grows Halted n r b = still b
 answer_grows Retry n r b = still b
 answer_grows Waiting n r b = still b
 
-step_grows : (x : Reply) (n : ℕ) (r : Registers) (b : Book) → Grows b (step_noted x n r b)
-step_grows (Stepped x) n r b = answer_grows x n r b
-step_grows (Byte v) n r b = still b
-step_grows (Word v) n r b = still b
-step_grows Done n r b = still b
-step_grows (Ended x) n r b = still b
-step_grows (Refused x) n r b = still b
+step_grows : (x : Result Reply Refusal) (n : ℕ) (r : Registers) (b : Book) → Grows b (step_noted x n r b)
+step_grows (Ok (Stepped x)) n r b = answer_grows x n r b
+step_grows (Ok (Byte v)) n r b = still b
+step_grows (Ok (Word v)) n r b = still b
+step_grows (Ok Done) n r b = still b
+step_grows (Ok (Ended x)) n r b = still b
+step_grows (Err x) n r b = still b
 
-call_grows : (c : Call) (x : Reply) (n : ℕ) (r : Registers) (b : Book) → Grows b (call_noted c x n r b)
+call_grows : (c : Call) (x : Result Reply Refusal) (n : ℕ) (r : Registers) (b : Book) → Grows b (call_noted c x n r b)
 call_grows (ReadByte o) x n r b = still b
 call_grows (ReadWord o) x n r b = still b
 call_grows (WriteByte o v) x n r b = either (is_done x && eqb (o / 64) n) b (half_noted (register_of o) v r b) b (half_grows (register_of o) v r b) (still b)
@@ -151,9 +146,9 @@ call_grows (Store f a v) x n r b = still b
 call_grows (Run k) x n r b = still b
 
 -- What was named before a call is named after it.
-pub book_grows : (c : Call) (x : Reply) (n : ℕ) (r : Registers) (b : Book) → Grows b (book_fed c x n r b)
+pub book_grows : (c : Call) (x : Result Reply Refusal) (n : ℕ) (r : Registers) (b : Book) → Grows b (book_fed c x n r b)
 unfolding book_fed
 book_grows c x n r b =
     twice b (settled_before r b) (call_noted c x n r (settled_before r b))
-    (either (is_active r.status) b b (with_gathered nothing_gathered b) (still b) (gathered_grows nothing_gathered b))
+    (either (is_active r.status) b b (with_gathered nothing_gathered b) (still b) (still b))
     (call_grows c x n r (settled_before r b))

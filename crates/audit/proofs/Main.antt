@@ -1,7 +1,7 @@
 -- The law.
-use Rattle.std.proofs.Common.{◌≡◌, ℕ, zero, suc, Bool, true, false, cond, eqb, ◌⊎◌, List, [], ◌∷◌, Some, None, Ok, Err, Option, refl, ap, ◌∙◌, inl, inr}
-use Rattle.refusal.specs.declared.kinds.Refusal.TheVariants.{NoPlace, NoException}
-use Rattle.bus.specs.Memory.{MemoryMeaning, byte_set, is_word_writable, low_address}
+use Rattle.std.proofs.Common.{◌≡◌, ℕ, zero, suc, Bool, false, ◌⊎◌, List, [], ◌∷◌, Some, None, Option, refl, ap, ◌∙◌, inl, inr}
+use Rattle.std.proofs.lemmas.Bool.{cond_both}
+use Rattle.bus.specs.Memory.{MemoryMeaning, is_word_writable}
 use Rattle.bus.specs.Store.{Stored, is_storable}
 use Rattle.cycle.specs.declared.carry.End.{End}
 use Rattle.cycle.specs.declared.carry.End.TheVariants.{InMemory, InDevice, InChannel}
@@ -11,14 +11,14 @@ use Rattle.cycle.specs.Carry.{destination_end, data_written, memory_put, slot_co
 use Rattle.cycle.specs.Serve.{slot_data}
 use Rattle.dmac.specs.Controller.{channel_at}
 use Rattle.dmac.specs.Choice.{chosen}
-use Rattle.dmac.specs.Step.{Machine, Stepped as StepDone, called as step_ok, step_chosen, step_on, step_reset, is_exception}
+use Rattle.dmac.specs.Step.{Machine, Stepped as StepDone, step_chosen, step_on}
 use Rattle.dmac.specs.Run.{plain_step}
 use Rattle.audit.specs.Calls.{Call, ReadByte, ReadWord, WriteByte, WriteWord, SetLine, Step, Store, Run, Called, byte_read_called, word_read_called, byte_write_called, word_write_called, line_called, step_called, store_called}
 use Rattle.audit.specs.History.{Past, Event, beginning, noted, stepped, is_recorded, run_made, called, passed, registers_of, outcome}
 use Rattle.audit.specs.Law.{IsMeant, LawfulAt, Law}
 use Rattle.audit.proofs.Inv.{begins_named}
 use Rattle.audit.proofs.Outcome.{Outcome, quiet, failed, moved, fetched, step_is}
-use Rattle.audit.proofs.Steps.{Kept}
+use Rattle.audit.proofs.Steps.{step_cases, Kept}
 use Rattle.audit.proofs.Calls.{read_byte_kept, read_word_kept, write_byte_kept, write_word_kept, line_kept, step_kept, store_kept, beginning_kept}
 use Rattle.audit.proofs.Memory.{meant_stays, step_bytes, store_bytes}
 use Rattle.audit.proofs.Cycles.{step_true}
@@ -26,16 +26,8 @@ use Rattle.audit.proofs.Errors.{errors_touch}
 
 -- The space numbers never change.
 data_space : (v : Data) (f a : ℕ) (m : MemoryMeaning) → (data_written v f a m).space ≡ m.space
-data_space (ByteOf x) f a m = go (m.writable f a)
-  where
-    go : (t : Bool) → (cond t (byte_set f a x m) m).space ≡ m.space
-    go true = refl
-    go false = refl
-data_space (WordOf x y) f a m = go (is_word_writable f a m)
-  where
-    go : (t : Bool) → (cond t (byte_set f (low_address a) y (byte_set f a x m)) m).space ≡ m.space
-    go true = refl
-    go false = refl
+data_space (ByteOf x) f a m = cond_both (m.writable f a) _ _ (λ (y : MemoryMeaning). y.space ≡ m.space) (λ _. refl) (λ _. refl)
+data_space (WordOf x y) f a m = cond_both (is_word_writable f a m) _ _ (λ (y : MemoryMeaning). y.space ≡ m.space) (λ _. refl) (λ _. refl)
 
 put_space : (e : End) (v : Data) (f a : ℕ) (m : MemoryMeaning) → (memory_put e v f a m).space ≡ m.space
 put_space InMemory v f a m = data_space v f a m
@@ -56,19 +48,11 @@ chosen_space None code done s = refl
 chosen_space (Some n) code done s = outcome_space s n (step_on n code done s) (step_is n code done s)
 
 step_space : (code : ℕ) (done : Bool) (s : Machine) → (step_called code done s).machine.memory.space ≡ s.memory.space
-step_space code done s = go (is_exception code) (eqb code 0)
-  where
-    go : (t u : Bool) → (cond t (cond u (step_ok (step_reset s)) (step_ok (step_chosen (chosen s.dmac) code done s))) (record { machine = s; answer = Err NoException })).machine.memory.space ≡ s.memory.space
-    go true true = refl
-    go true false = chosen_space (chosen s.dmac) code done s
-    go false u = refl
+step_space code done s =
+    step_cases code done s (λ y. y.machine.memory.space ≡ s.memory.space) refl (chosen_space (chosen s.dmac) code done s) refl
 
 store_space : (f a v : ℕ) (s : Machine) → (store_called f a v s).machine.memory.space ≡ s.memory.space
-store_space f a v s = go (is_storable f a s.memory)
-  where
-    go : (t : Bool) → (cond {A = Stored} t (record { memory = byte_set f a v s.memory; answer = Ok tt }) (record { memory = s.memory; answer = Err NoPlace })).memory.space ≡ s.memory.space
-    go true = refl
-    go false = refl
+store_space f a v s = cond_both (is_storable f a s.memory) _ _ (λ (y : Stored). y.memory.space ≡ s.memory.space) (λ _. refl) (λ _. refl)
 
 -- What every call keeps, since a memory m stood at the beginning.
 record Holds (m : MemoryMeaning) (p : Past) : Type 0 where
@@ -96,16 +80,12 @@ holds_step m code done p h =
     holds_noted m (Step code done) (step_called code done p.machine) p h (step_kept code done p h.kept) (step_space code done p.machine)
     (step_bytes code done m p h.spaces h.kept)
 
-holds_cond : (m : MemoryMeaning) (t : Bool) (x y : Past) → Holds m x → Holds m y → Holds m (cond t x y)
-holds_cond m true x y p q = p
-holds_cond m false x y p q = q
-
 holds_run : (m : MemoryMeaning) (n room : ℕ) (p : Past) → Holds m p → Holds m (run_made n room p)
 holds_run m zero room p h = h
 holds_run m (suc n) zero p h = h
 holds_run m (suc n) (suc room) p h =
     let g = holds_step m 7 false p h in
-    holds_cond m (is_recorded (plain_step p.machine).answer) (run_made n room (stepped 7 false p)) (stepped 7 false p) (holds_run m n room (stepped 7 false p) g) g
+    cond_both (is_recorded (plain_step p.machine).answer) _ _ (Holds m) (λ _. holds_run m n room (stepped 7 false p) g) (λ _. g)
 
 holds_called : (m : MemoryMeaning) (c : Call) (room : ℕ) (p : Past) → Holds m p → Holds m (called c room p)
 holds_called m (ReadByte o) room p h =

@@ -1,6 +1,7 @@
 -- Memory changes only at the destination of an operand that was named, or at a store's place.
-use Rattle.std.proofs.Common.{◌≡◌, ℕ, suc, ◌+◌, ◌<◌, Bool, true, false, cond, ◌&&◌, eqb, ◌⊎◌, List, [], ◌∷◌, ◌++◌, length, drop, Some, None, Ok, Err, Option, sym, refl, ap, ◌∙◌, subst, inl, inr, ⊎_elim, arith}
-use Rattle.refusal.specs.declared.kinds.Refusal.TheVariants.{NoPlace, NoException}
+use Rattle.std.proofs.Common.{◌≡◌, ℕ, suc, ◌+◌, ◌<◌, Bool, true, false, cond, ◌&&◌, eqb, ◌⊎◌, List, [], ◌∷◌, ◌++◌, length, drop, Some, None, Ok, Err, Option, Result, sym, refl, ap, ◌∙◌, subst, inl, inr, ⊎_elim, arith}
+use Rattle.refusal.specs.declared.kinds.Refusal.{Refusal}
+use Rattle.refusal.specs.declared.kinds.Refusal.TheVariants.{NoPlace}
 use Rattle.std.proofs.lemmas.Bool.{and_parts, eqb-true}
 use Rattle.registers.specs.Config.{is_single, is_inward, is_device_memory}
 use Rattle.registers.specs.Status.{is_active}
@@ -22,9 +23,9 @@ use Rattle.cycle.specs.Carry.{side_end, destination_end_by, destination_end, sou
 use Rattle.cycle.specs.Serve.{kind_by, slot_data}
 use Rattle.dmac.specs.Controller.{channel_at}
 use Rattle.dmac.specs.Choice.{chosen}
-use Rattle.dmac.specs.Step.{Machine, Stepped as StepDone, called as step_ok, step_chosen, step_on, step_reset, is_exception}
+use Rattle.dmac.specs.Step.{Machine, Stepped as StepDone, step_chosen, step_on}
 use Rattle.audit.specs.Operand.{Place, in_memory, in_device, bare_device, Move, Operand, paired, operand, operands}
-use Rattle.audit.specs.Calls.{Call, ReadByte, ReadWord, WriteByte, WriteWord, SetLine, Step, Store, Run, Reply, Called, done_reply, store_called, step_called}
+use Rattle.audit.specs.Calls.{Call, ReadByte, ReadWord, WriteByte, WriteWord, SetLine, Step, Store, Run, Reply, Called, done_replied, store_called, step_called}
 use Rattle.audit.specs.Book.{Book, bytes_told, bytes_from, places_written, is_done, settled_before, nothing_gathered}
 use Rattle.audit.specs.History.{Past, StoredAt, stores_noted, noted, stepped, registers_of}
 use Rattle.audit.specs.Law.{SomeOf, IsByte, IsDestination, IsMeant}
@@ -35,13 +36,13 @@ use Rattle.audit.proofs.Flow.{length_got}
 use Rattle.audit.proofs.Carry.{code_same, address_same}
 use Rattle.audit.proofs.Outcome.{Outcome, quiet, failed, moved, fetched, Moved, slot_made, step_is}
 use Rattle.audit.proofs.Chosen.{Serves}
-use Rattle.audit.proofs.Steps.{Kept, serves, found}
+use Rattle.audit.proofs.Steps.{step_cases, Kept, serves, found}
 use Rattle.audit.proofs.Calls.{settled_kept}
 use Rattle.audit.proofs.Cycles.{moving, moving_slot, sent_below}
 use Rattle.audit.proofs.Grows.{book_grows}
 
 -- What was meant stays meant.
-stores_stay : (P : StoredAt → Type 0) (c : Call) (x : Reply) (l : List StoredAt) → SomeOf P l → SomeOf P (stores_noted c x l)
+stores_stay : (P : StoredAt → Type 0) (c : Call) (x : Result Reply Refusal) (l : List StoredAt) → SomeOf P l → SomeOf P (stores_noted c x l)
 stores_stay P (Store f a v) x l h = go (is_done x)
   where
     go : (t : Bool) → SomeOf P (cond t (l ++ record { code = f; address = a } ∷ []) l)
@@ -101,7 +102,7 @@ put_changes InChannel v f a m s b h = inl refl
 side_memory : (t : Bool) (P : Place → Type 0) (f a n : ℕ) → cond t InMemory InDevice ≡ InMemory → SomeOf P (bytes_from (in_memory f) a n)
     → SomeOf P (bytes_from (λ x. cond t (in_memory f x) (in_device f x)) a n)
 side_memory true P f a n e h = h
-side_memory false P f a n e h = let z : ◌≡◌ {A = ℕ} 0 1 = cc in absurd (omega arith)
+side_memory false P f a n e h = absurd cc
 
 destination_memory : (t : Bool) (s : Side) (k : Config) (P : Place → Type 0) (f a n : ℕ) → fits false t Destination s ≡ true → side_end s k ≡ InMemory
     → SomeOf P (bytes_from (in_memory f) a n) → SomeOf P (places_written false t k Write f a n)
@@ -113,14 +114,14 @@ destination_memory false Device k P f a n u e h = side_memory (is_device_memory 
 through_memory : (t : Bool) (k : Config) (kind : _) (P : Place → Type 0) (f a n : ℕ) → cond t InMemory InDevice ≡ InMemory
     → SomeOf P (bytes_from (in_memory f) a n) → SomeOf P (places_written true t k kind f a n)
 through_memory true k kind P f a n e h = h
-through_memory false k kind P f a n e h = let z : ◌≡◌ {A = ℕ} 0 1 = cc in absurd (omega arith)
+through_memory false k kind P f a n e h = absurd cc
 
 written_memory : (si : Bool) (y : Way) (s : Side) (k : Config) (P : Place → Type 0) (f a n : ℕ) → fits si (is_inward k) y s ≡ true → destination_end_by y s k ≡ InMemory
     → SomeOf P (bytes_from (in_memory f) a n) → SomeOf P (places_written si (is_inward k) k (kind_by y k) f a n)
 written_memory true Source s k P f a n u e h = no u
 written_memory true Destination s k P f a n u e h = no u
 written_memory true Through s k P f a n u e h = through_memory (is_inward k) k (kind_by Through k) P f a n e h
-written_memory false Source s k P f a n u e h = let z : ◌≡◌ {A = ℕ} 0 1 = cc in absurd (omega arith)
+written_memory false Source s k P f a n u e h = absurd cc
 written_memory false Destination s k P f a n u e h = destination_memory (is_inward k) s k P f a n u e h
 written_memory false Through s k P f a n u e h = no u
 
@@ -206,12 +207,8 @@ chosen_left None code done m s B i b q e g = inl refl
 chosen_left (Some n) code done m s B i b q e g = outcome_left m s B n (step_on n code done s) i b e g (serves s B n g q) (step_is n code done s)
 
 step_left : (code : ℕ) (done : Bool) (m : MemoryMeaning) (s : Machine) (B : ℕ → Book) (i b : ℕ) → s.memory.space ≡ m.space → Kept s B → Left m B i b s (step_called code done s).machine
-step_left code done m s B i b e g = go (is_exception code) (eqb code 0)
-  where
-    go : (t u : Bool) → Left m B i b s (cond t (cond u (step_ok (step_reset s)) (step_ok (step_chosen (chosen s.dmac) code done s))) (record { machine = s; answer = Err NoException })).machine
-    go true true = inl refl
-    go true false = chosen_left (chosen s.dmac) code done m s B i b refl e g
-    go false u = inl refl
+step_left code done m s B i b e g =
+    step_cases code done s (λ y. Left m B i b s y.machine) (inl refl) (chosen_left (chosen s.dmac) code done m s B i b refl e g) (inl refl)
 
 -- A call's bytes: as they were, or meant.
 abbrev MeantOnly : MemoryMeaning → Past → Past → Type 0
@@ -236,7 +233,7 @@ store_bytes f a v m p e i b = go (is_storable f a p.machine.memory)
     go : (t : Bool)
         → ((cond {A = Stored} t (record { memory = byte_set f a v p.machine.memory; answer = Ok tt }) (record { memory = p.machine.memory; answer = Err NoPlace })).memory.byte i b ≡ p.machine.memory.byte i b)
         ⊎ (((n : ℕ) × (n < 4) × SomeOf (IsDestination m i b) ((noted (Store f a v) (store_called f a v p.machine) p).books n).ever)
-        ⊎ SomeOf (λ w. (m.space w.code ≡ i) × (w.address ≡ b)) (cond (is_done (done_reply (cond {A = Stored} t (record { memory = byte_set f a v p.machine.memory; answer = Ok tt }) (record { memory = p.machine.memory; answer = Err NoPlace })).answer)) (p.stores ++ record { code = f; address = a } ∷ []) p.stores))
+        ⊎ SomeOf (λ w. (m.space w.code ≡ i) × (w.address ≡ b)) (cond (is_done (done_replied (cond {A = Stored} t (record { memory = byte_set f a v p.machine.memory; answer = Ok tt }) (record { memory = p.machine.memory; answer = Err NoPlace })).answer)) (p.stores ++ record { code = f; address = a } ∷ []) p.stores))
     go false = inl refl
     go true =
         ⊎_elim (λ z. inl z) (λ z. inr (inr (some_right _ p.stores _ (inl (sym (ap (λ (g : ℕ → ℕ). g f) e) ∙ z.0, z.1))))) (set_changes f a v p.machine.memory i b)

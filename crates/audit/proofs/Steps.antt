@@ -1,6 +1,7 @@
 -- A bus step keeps the invariant of every channel.
-use Rattle.std.proofs.Common.{◌≡◌, ℕ, zero, suc, ◌+◌, ◌<◌, Bool, true, false, cond, eqb, ltb, List, [], ◌∷◌, length, get_or, drop, set, Some, None, Option, sym, refl, ap, ◌∙◌, subst, add-one, arith, length-set, drop_of_length-le, drop-cons}
-use Rattle.std.proofs.lemmas.Bool.{eqb-true, eqb-false, ltb-true}
+use Rattle.std.proofs.Common.{◌≡◌, ℕ, zero, suc, ◌+◌, ◌<◌, Bool, true, false, cond, eqb, ltb, List, [], ◌∷◌, length, get_or, drop, set, Some, Err, None, Option, sym, refl, ap, ◌∙◌, subst, add-one, arith, length-set, drop_of_length-le, drop-cons}
+use Rattle.std.proofs.lemmas.Bool.{eqb-true, eqb-false, ltb-true, cond_both}
+use Rattle.refusal.specs.declared.kinds.Refusal.TheVariants.{NoException}
 use Rattle.registers.specs.Status.{is_active}
 use Rattle.registers.specs.declared.fault.Fault.{Fault}
 use Rattle.registers.specs.declared.groups.Config.{Config}
@@ -23,7 +24,7 @@ use Rattle.dmac.specs.declared.answer.Answer.{Answer}
 use Rattle.dmac.specs.declared.answer.Answer.TheVariants.{Reset, Idle as IdleAnswer, Halted, Retry, Waiting, Recorded}
 use Rattle.dmac.specs.Controller.{channel_at, controller_reset}
 use Rattle.dmac.specs.Choice.{chosen}
-use Rattle.dmac.specs.Step.{Machine, Stepped, step_quiet, step_failed, step_chosen, step_on, step_reset}
+use Rattle.dmac.specs.Step.{Machine, Stepped, Called, called, step_taken, step_quiet, step_failed, step_chosen, step_on, step_reset, is_exception}
 use Rattle.audit.specs.Book.{Book, answer_noted, cycle_noted, word_noted, bytes_told}
 use Rattle.audit.specs.History.{registers_of}
 use Rattle.audit.proofs.Basics.{at_set, at_set_alone}
@@ -98,14 +99,14 @@ found k l q last e = go (ltb k (length l)) refl e
         let pair : ◌≡◌ {A = Slot × Bool} (get_or l k (slot Source Memory 0 false), eqb (k + 1) (length l)) (q, last) = cc in
         let both : Slot × Bool → Type 0 = λ z. Found k l z.0 z.1 in
         subst both pair (found_by k l (slot Source Memory 0 false) (ltb-true k (length l) p))
-    go false p r = let z : ◌≡◌ {A = ℕ} 0 1 = cc in absurd (omega arith)
+    go false p r = absurd cc
 
 -- A destination cycle writes what was held first.
 held_data : (y : Way) (i : Side) (k : Config) (n f a : ℕ) (w : Bool) (h : Held) (m : MemoryMeaning) (b : BankMeaning)
     → y ≡ Destination → data_got (source_end_by y i k) n f a w h m b ≡ held_first w h
-held_data Source i k n f a w h m b e = let z : ◌≡◌ {A = ℕ} 0 1 = cc in absurd (omega arith)
+held_data Source i k n f a w h m b e = absurd cc
 held_data Destination i k n f a w h m b e = refl
-held_data Through i k n f a w h m b e = let z : ◌≡◌ {A = ℕ} 0 1 = cc in absurd (omega arith)
+held_data Through i k n f a w h m b e = absurd cc
 
 moved_inv : (s : Machine) (n : ℕ) (o : Stepped) (b : Book) (m : Moved s n o) → InvX (channel_at n s.dmac) b → is_active (channel_at n s.dmac).registers.status ≡ true
     → InvX (slot_made s n m.q m.last m.k m.h m.done).channel
@@ -145,6 +146,13 @@ outcome_goes s B n o g v (fetched m) =
 
 pub serves : (s : Machine) (B : ℕ → Book) (n : ℕ) → Kept s B → chosen s.dmac ≡ Some n → Serves s.dmac n
 serves s B n g e = chosen_serves s.dmac n (λ d h. (g.each d h).quiet) e
+
+-- A call of a step resets the controller, is the step of the chosen channel, or is refused.
+pub step_cases : (code : ℕ) (done : Bool) (s : Machine) (P : Called Answer → Type 0)
+    → P (called (step_reset s)) → P (called (step_chosen (chosen s.dmac) code done s)) → P (record { machine = s; answer = Err NoException })
+    → P (step_taken code done s)
+step_cases code done s P reset stepped refused =
+    cond_both (is_exception code) _ _ P (λ _. cond_both (eqb code 0) _ _ P (λ _. reset) (λ _. stepped)) (λ _. refused)
 
 pub chosen_goes : (o : Option ℕ) (code : ℕ) (done : Bool) (s : Machine) (B : ℕ → Book) → chosen s.dmac ≡ o → Kept s B → Goes s B (step_chosen o code done s)
 chosen_goes None code done s B e g = quiet_goes s B false IdleAnswer tt g

@@ -1,5 +1,6 @@
 -- Byte and word writes, barred or made.
 use Rattle.std.proofs.Common.{◌≡◌, ℕ, Bool, true, false, cond, ◌&&◌, ◌||◌, sym, refl, ap, ◌∙◌, subst}
+use Rattle.std.proofs.lemmas.Bool.{and_parts, and_left}
 use Rattle.registers.specs.Bits.{any}
 use Rattle.registers.specs.Config.{is_chained}
 use Rattle.registers.specs.Status.{is_active}
@@ -67,10 +68,6 @@ calm_half General v r b a e = refl
 calm_half (To x) v r b a e = calm_register x v r b a e
 
 -- A register that is barred is one of an active channel, and its write leaves the book.
-locked_active : (a t : Bool) → (a && t) ≡ true → a ≡ true
-locked_active true t e = refl
-locked_active false t e = no e
-
 control_free : (x : Register) (t v : Bool) → is_locked x t ≡ true → (is_control_register x && v) ≡ false
 control_free Ccr t v e = no e
 control_free Csr t v e = refl
@@ -90,10 +87,6 @@ control_free Dfc t v e = refl
 control_free Bfc t v e = refl
 control_free Cpr t v e = refl
 
-and_second : (a t : Bool) → (a && t) ≡ true → t ≡ true
-and_second true t e = e
-and_second false t e = no e
-
 -- One byte.
 pub byte_inv : (h : Access) (v : ℕ) (x : Channel) (b : Book) → InvX x b
     → InvX (written Nowhere 0 (barred_by h (is_active x.registers.status) (is_chained x.registers.config)) v x)
@@ -107,7 +100,7 @@ byte_inv (To r) v x b g = go (is_active x.registers.status && is_locked r (is_ch
         → InvX (written Nowhere 0 (cond t Barred (To r)) v x) (register_noted r v x.registers b)
     go true e =
         subst (λ (y : Book). InvX (channel_failed Timing x) y)
-        (sym (calm_register r v x.registers b (locked_active _ _ e) (control_free r _ _ (and_second (is_active x.registers.status) (is_locked r (is_chained x.registers.config)) e))))
+        (sym (calm_register r v x.registers b (and_parts _ _ e).0 (control_free r _ _ (and_parts (is_active x.registers.status) (is_locked r (is_chained x.registers.config)) e).1)))
         (fail_inv Timing x b g)
     go false e = write_inv r v x b e g
 
@@ -117,10 +110,6 @@ record Keeps (x y : Channel) : Type 0 where
   free : (r : Register) → (is_active x.registers.status && is_locked r (is_chained x.registers.config)) ≡ false
       → (is_active y.registers.status && is_locked r (is_chained y.registers.config)) ≡ false
 
-and_inactive : (a t : Bool) → a ≡ false → (a && t) ≡ false
-and_inactive true t e = no (sym e)
-and_inactive false t e = refl
-
 register_keeps : (h : Register) (v : ℕ) (x : Channel) → is_control_register h ≡ false
     → (is_active x.registers.status && is_locked h (is_chained x.registers.config)) ≡ false → Keeps x (register_written h v x)
 register_keeps Ccr v x e f = no (sym e)
@@ -128,10 +117,10 @@ register_keeps Csr v x e f = record {
   active = cleared_active v x.registers.status;
   free = λ r q. ap (λ (a : Bool). a && is_locked r (is_chained x.registers.config)) (cleared_active v x.registers.status) ∙ q;
 }
-register_keeps Dcr v x e f = record { active = refl; free = λ r q. and_inactive (is_active x.registers.status) _ (and_true _ f) }
-register_keeps Ocr v x e f = record { active = refl; free = λ r q. and_inactive (is_active x.registers.status) _ (and_true _ f) }
-register_keeps Scr v x e f = record { active = refl; free = λ r q. and_inactive (is_active x.registers.status) _ (and_true _ f) }
-register_keeps Dfc v x e f = record { active = refl; free = λ r q. and_inactive (is_active x.registers.status) _ (and_true _ f) }
+register_keeps Dcr v x e f = record { active = refl; free = λ r q. and_left (is_active x.registers.status) _ (and_true _ f) }
+register_keeps Ocr v x e f = record { active = refl; free = λ r q. and_left (is_active x.registers.status) _ (and_true _ f) }
+register_keeps Scr v x e f = record { active = refl; free = λ r q. and_left (is_active x.registers.status) _ (and_true _ f) }
+register_keeps Dfc v x e f = record { active = refl; free = λ r q. and_left (is_active x.registers.status) _ (and_true _ f) }
 register_keeps Cer v x e f = record { active = refl; free = λ r q. q }
 register_keeps (Mtc k) v x e f = record { active = refl; free = λ r q. q }
 register_keeps (Mar k) v x e f = record { active = refl; free = λ r q. q }
@@ -168,10 +157,6 @@ same_noted Cpr v r s b a e = refl
 -- A half that is not barred, as it stands in a channel.
 abbrev reach : Access → Channel → Access
 reach h x = barred_by h (is_active x.registers.status) (is_chained x.registers.config)
-
-free_of : (t : Bool) (r : Register) → is_barred (cond t Barred (To r)) ≡ false → t ≡ false
-free_of true r e = no (sym e)
-free_of false r e = refl
 
 -- The high half, made, and what it leaves.
 high_inv : (h : Access) (v : ℕ) (x : Channel) (b : Book) → is_barred (reach h x) ≡ false → InvX x b
@@ -232,7 +217,7 @@ word_inv h l vh vl x b nh nl c d g = go (is_barred (reach h x)) refl (is_barred 
     failed : is_active x.registers.status ≡ true
         → InvX (channel_failed Timing x) (half_noted (barred_by l false false) vl x.registers (half_noted (barred_by h false false) vh x.registers b))
     failed a =
-        let p = calm_half h vh x.registers b a (and_inactive _ _ c) in
+        let p = calm_half h vh x.registers b a (and_left _ _ c) in
         let q = calm_half l vl x.registers (half_noted (barred_by h false false) vh x.registers b) a d in
         subst (λ (z : Book). InvX (channel_failed Timing x) z) (sym (q ∙ p)) (fail_inv Timing x b g)
 

@@ -1,9 +1,10 @@
 -- Register writes keep the invariant.
-use Rattle.std.proofs.Common.{◌≡◌, ℕ, zero, suc, Bool, true, false, cond, not, ◌&&◌, eqb, List, [], ◌∷◌, Some, None, Option, sym, refl, arith}
+use Rattle.std.proofs.Common.{◌≡◌, ℕ, zero, suc, Bool, true, false, cond, not, ◌&&◌, eqb, List, [], ◌∷◌, Some, None, Option, sym, refl}
+use Rattle.std.proofs.lemmas.Bool.{cond_both}
 use Rattle.registers.specs.Bits.{any}
 use Rattle.registers.specs.Checks.{Check, first_failing}
 use Rattle.registers.specs.Config.{is_single, is_port16, is_chained, is_misplaced}
-use Rattle.registers.specs.Control.{stored, continued}
+use Rattle.registers.specs.Control.{stored}
 use Rattle.registers.specs.Status.{is_active, is_block_done, activated}
 use Rattle.registers.specs.declared.fault.Fault.{Fault}
 use Rattle.registers.specs.declared.fault.Fault.TheVariants.{Configuration, Timing, Abort}
@@ -41,7 +42,7 @@ passes (k ∷ ks) e = go (λ r. passes ks r) k.fails refl e
   where
     go : (first_failing ks ≡ None → EachOf (λ k. k.fails ≡ false) ks) → (t : Bool) → k.fails ≡ t → cond t (Some k.answer) (first_failing ks) ≡ None
         → (k.fails ≡ false) × EachOf (λ k. k.fails ≡ false) ks
-    go ih true q r = let z : ◌≡◌ {A = ℕ} 0 1 = cc in absurd (omega arith)
+    go ih true q r = absurd cc
     go ih false q r = (q, ih r)
 
 -- What a start that passes its checks has found: the channel is not active, and the operand to come is at even
@@ -127,20 +128,14 @@ start_inv None cnt l x b e h = started_inv cnt l x b (start_passed cnt x.registe
 start_inv (Some f) cnt l x b e h = fail_inv f (with_control l x) b h
 
 continue_inv : (x : Channel) (b : Book) → InvX x b → InvX (continue_tried x) b
-continue_inv x b h = go (not (is_active x.registers.status)) (is_chained x.registers.config) (is_block_done x.registers.status)
-  where
-    go : (i t k : Bool) → InvX (cond i (channel_failed Timing x) (cond t (channel_failed Configuration x) (cond k (channel_failed Timing x) (with_control (continued x.registers.control) x)))) b
-    go true t k = fail_inv Timing x b h
-    go false true k = fail_inv Configuration x b h
-    go false false true = fail_inv Timing x b h
-    go false false false = h
+continue_inv x b h =
+    let P : Channel → Type 0 = λ y. InvX y b in
+    cond_both (not (is_active x.registers.status)) _ _ P (λ _. fail_inv Timing x b h)
+    (λ _. cond_both (is_chained x.registers.config) _ _ P (λ _. fail_inv Configuration x b h)
+    (λ _. cond_both (is_block_done x.registers.status) _ _ P (λ _. fail_inv Timing x b h) (λ _. h)))
 
 abort_inv : (x : Channel) (b : Book) → InvX x b → InvX (abort_tried x) b
-abort_inv x b h = go (is_active x.registers.status)
-  where
-    go : (t : Bool) → InvX (cond t (channel_failed Abort x) x) b
-    go true = fail_inv Abort x b h
-    go false = h
+abort_inv x b h = cond_both (is_active x.registers.status) _ _ (λ y. InvX y b) (λ _. fail_inv Abort x b h) (λ _. h)
 
 -- A control write's book looks at the registers as they were, whatever HLT and INT become.
 control_inv : (v : ℕ) (x : Channel) (b : Book) → InvX x b → InvX (control_written v x) (control_noted v x.registers b)

@@ -1,6 +1,7 @@
 -- The plain book of one channel: what its operations named and what they delivered. It is fed each call, its reply and
 -- the channel's registers before it, and sees nothing of the controller's inside.
-use Rattle.std.specs.Prelude.{ℕ, zero, suc, ◌+◌, ◌-◌, ◌*◌, ◌/◌, ◌%◌, Bool, true, false, cond, ◌&&◌, List, [], ◌∷◌, ◌++◌, length, Some, None, Option, ◌==◌, slice_index}
+use Rattle.std.specs.Prelude.{ℕ, zero, suc, ◌+◌, ◌-◌, ◌*◌, ◌/◌, ◌%◌, Bool, true, false, cond, ◌&&◌, List, [], ◌∷◌, ◌++◌, length, Some, None, Ok, Err, Option, Result, ◌==◌, slice_index}
+use Rattle.refusal.specs.declared.kinds.Refusal.{Refusal}
 use Rattle.registers.specs.Bits.{any}
 use Rattle.registers.specs.Config.{is_single, is_inward, is_chained, chain_of, size_of, bytes_of}
 use Rattle.registers.specs.Control.{is_continuing}
@@ -25,7 +26,7 @@ use Rattle.dmac.specs.declared.answer.Answer.{Answer}
 use Rattle.dmac.specs.declared.answer.Answer.TheVariants.{Reset, Idle, Halted, Retry, Waiting, Recorded}
 use Rattle.dmac.specs.Access.{register_of, register_after}
 use Rattle.audit.specs.Operand.{Place, in_memory, device_place, bare, Operand, paired, operands, dar_after}
-use Rattle.audit.specs.Calls.{Call, ReadByte, ReadWord, WriteByte, WriteWord, SetLine, Step, Store, Run, Reply, Byte, Word, Done, Stepped, Ended, Refused}
+use Rattle.audit.specs.Calls.{Call, ReadByte, ReadWord, WriteByte, WriteWord, SetLine, Step, Store, Run, Reply, Byte, Word, Done, Stepped, Ended}
 
 -- What was gathered of the operand or entry that the channel is inside of: where the bytes came from and went to, the
 -- bytes that its source gave and those that were written, the words of the entry, and the addresses of these.
@@ -324,25 +325,25 @@ answer_noted Halted n r b = b
 answer_noted Retry n r b = b
 answer_noted Waiting n r b = b
 
-abbrev pub step_noted : Reply → ℕ → Registers → Book → Book
-step_noted (Stepped x) n r b = answer_noted x n r b
-step_noted (Byte v) n r b = b
-step_noted (Word v) n r b = b
-step_noted Done n r b = b
-step_noted (Ended x) n r b = b
-step_noted (Refused x) n r b = b
+abbrev pub step_noted : Result Reply Refusal → ℕ → Registers → Book → Book
+step_noted (Ok (Stepped x)) n r b = answer_noted x n r b
+step_noted (Ok (Byte v)) n r b = b
+step_noted (Ok (Word v)) n r b = b
+step_noted (Ok Done) n r b = b
+step_noted (Ok (Ended x)) n r b = b
+step_noted (Err x) n r b = b
 
-abbrev pub is_done : Reply → Bool
-is_done Done = true
-is_done (Byte v) = false
-is_done (Word v) = false
-is_done (Stepped x) = false
-is_done (Ended x) = false
-is_done (Refused x) = false
+abbrev pub is_done : Result Reply Refusal → Bool
+is_done (Ok Done) = true
+is_done (Ok (Byte v)) = false
+is_done (Ok (Word v)) = false
+is_done (Ok (Stepped x)) = false
+is_done (Ok (Ended x)) = false
+is_done (Err x) = false
 
 -- A call and its reply. Register writes of the channel that were done, and steps, matter; other calls and refused ones
 -- change nothing. (A run is its steps.)
-abbrev pub call_noted : Call → Reply → ℕ → Registers → Book → Book
+abbrev pub call_noted : Call → Result Reply Refusal → ℕ → Registers → Book → Book
 call_noted (ReadByte o) x n r b = b
 call_noted (ReadWord o) x n r b = b
 call_noted (WriteByte o v) x n r b = cond (is_done x && o / 64 == n) (half_noted (register_of o) v r b) b
@@ -359,5 +360,5 @@ abbrev pub settled_before : Registers → Book → Book
 settled_before r b = cond (is_active r.status) b (with_gathered nothing_gathered b)
 
 -- The book of channel n, fed one call more.
-unfoldable pub book_fed : Call → Reply → ℕ → Registers → Book → Book
+unfoldable pub book_fed : Call → Result Reply Refusal → ℕ → Registers → Book → Book
 book_fed c x n r b = call_noted c x n r (settled_before r b)

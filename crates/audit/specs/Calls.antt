@@ -4,9 +4,7 @@ use Rattle.refusal.specs.declared.kinds.Refusal.{Refusal}
 use Rattle.bus.specs.Memory.{MemoryMeaning}
 use Rattle.bus.specs.Store.{stored}
 use Rattle.cycle.specs.declared.record.Record.{Record}
-use Rattle.dmac.specs.declared.answer.Answer.{Answer}
 use Rattle.dmac.specs.declared.controller.Dmac.{Dmac}
-use Rattle.dmac.specs.declared.run.Ran.{Ran}
 use Rattle.dmac.specs.Access.{byte_read, word_read, byte_written, word_written}
 use Rattle.dmac.specs.Line.{line_changed}
 use Rattle.dmac.specs.Step.{Machine, machine_of, step_taken}
@@ -14,33 +12,21 @@ use Rattle.dmac.specs.Run.{run_taken}
 pub use Rattle.audit.specs.declared.call.Call.{Call}
 pub use Rattle.audit.specs.declared.call.Call.TheVariants.{ReadByte, ReadWord, WriteByte, WriteWord, SetLine, Step, Store, Run}
 pub use Rattle.audit.specs.declared.call.Reply.{Reply}
-pub use Rattle.audit.specs.declared.call.Reply.TheVariants.{Byte, Word, Done, Stepped, Ended, Refused}
+pub use Rattle.audit.specs.declared.call.Reply.TheVariants.{Byte, Word, Done, Stepped, Ended}
 
--- Each kind of answer as a reply.
-abbrev pub byte_reply : Result ℕ Refusal → Reply
-byte_reply (Ok v) = Byte v
-byte_reply (Err r) = Refused r
+-- An answer as a reply: f of its value, or its refusal.
+abbrev pub replied : {A : Type 0} → (A → Reply) → Result A Refusal → Result Reply Refusal
+replied f (Ok x) = Ok (f x)
+replied f (Err r) = Err r
 
-abbrev pub word_reply : Result ℕ Refusal → Reply
-word_reply (Ok v) = Word v
-word_reply (Err r) = Refused r
-
-abbrev pub done_reply : Result (Unit {0}) Refusal → Reply
-done_reply (Ok u) = Done
-done_reply (Err r) = Refused r
-
-abbrev pub step_reply : Result Answer Refusal → Reply
-step_reply (Ok a) = Stepped a
-step_reply (Err r) = Refused r
-
-abbrev pub run_reply : Result Ran Refusal → Reply
-run_reply (Ok told) = Ended told
-run_reply (Err r) = Refused r
+-- An answer without a value.
+abbrev pub done_replied : Result (Unit {0}) Refusal → Result Reply Refusal
+done_replied r = replied (λ u. Done) r
 
 -- What a call leaves of the machine, and what it replies.
 pub record Called : Type 0 where
   pub machine : Machine
-  pub reply : Reply
+  pub reply : Result Reply Refusal
 
 abbrev pub with_dmac : Dmac → Machine → Machine
 with_dmac k s = machine_of k s.memory s.bank
@@ -50,46 +36,46 @@ with_memory m s = machine_of s.dmac m s.bank
 
 -- Each call but a run. A register access and a line change touch the controller alone, a store the memory alone.
 abbrev pub byte_read_called : ℕ → Machine → Called
-byte_read_called o s = record { machine = s; reply = byte_reply (byte_read o s.dmac) }
+byte_read_called o s = record { machine = s; reply = replied Byte (byte_read o s.dmac) }
 
 abbrev pub word_read_called : ℕ → Machine → Called
-word_read_called o s = record { machine = s; reply = word_reply (word_read o s.dmac) }
+word_read_called o s = record { machine = s; reply = replied Word (word_read o s.dmac) }
 
 abbrev pub byte_write_called : ℕ → ℕ → Machine → Called
 byte_write_called o v s = record {
   machine = with_dmac (byte_written o v s.dmac).state s;
-  reply = done_reply (byte_written o v s.dmac).answer;
+  reply = done_replied (byte_written o v s.dmac).answer;
 }
 
 abbrev pub word_write_called : ℕ → ℕ → Machine → Called
 word_write_called o v s = record {
   machine = with_dmac (word_written o v s.dmac).state s;
-  reply = done_reply (word_written o v s.dmac).answer;
+  reply = done_replied (word_written o v s.dmac).answer;
 }
 
 abbrev pub line_called : ℕ → Bool → Machine → Called
 line_called n on s = record {
   machine = with_dmac (line_changed n on s.dmac).state s;
-  reply = done_reply (line_changed n on s.dmac).answer;
+  reply = done_replied (line_changed n on s.dmac).answer;
 }
 
 abbrev pub step_called : ℕ → Bool → Machine → Called
 step_called code done s = record {
   machine = (step_taken code done s).machine;
-  reply = step_reply (step_taken code done s).answer;
+  reply = replied Stepped (step_taken code done s).answer;
 }
 
 abbrev pub store_called : ℕ → ℕ → ℕ → Machine → Called
 store_called c a v s = record {
   machine = with_memory (stored c a v s.memory).memory s;
-  reply = done_reply (stored c a v s.memory).answer;
+  reply = done_replied (stored c a v s.memory).answer;
 }
 
 -- What a call leaves of machine and trace, and what it replies. Only a run looks at the trace; it has so many places.
 pub record Performed : Type 0 where
   pub machine : Machine
   pub trace : List Record
-  pub reply : Reply
+  pub reply : Result Reply Refusal
 
 abbrev pub traced : List Record → Called → Performed
 traced t c = record { machine = c.machine; trace = t; reply = c.reply }
@@ -105,5 +91,5 @@ performed (Store c a v) places s t = traced t (store_called c a v s)
 performed (Run n) places s t = record {
   machine = (run_taken n places s t).machine;
   trace = (run_taken n places s t).trace;
-  reply = run_reply (run_taken n places s t).answer;
+  reply = replied Ended (run_taken n places s t).answer;
 }

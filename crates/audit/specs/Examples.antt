@@ -1,15 +1,10 @@
 -- Worked histories, so that the definitions are seen at work.
-use Rattle.std.specs.Prelude.{◌≡◌, ℕ, zero, suc, false, List, [], ◌∷◌, map}
+use Rattle.std.specs.Prelude.{◌≡◌, ℕ, false, List, [], ◌∷◌, map, replicate}
 use Rattle.bus.specs.Memory.{flat, byte_at}
 use Rattle.devices.specs.Bank.{nothing}
 use Rattle.audit.specs.Operand.{Place, in_memory, in_device, bare_device, Move, Operand}
 use Rattle.audit.specs.Calls.{Call, WriteByte, Step, Store, Run}
 use Rattle.audit.specs.History.{Past, registers_of, outcome}
-
--- A memory of so many bytes of 0.
-abbrev pub zeros : ℕ → List ℕ
-zeros zero = []
-zeros (suc n) = 0 ∷ zeros n
 
 -- The address of a place as sent.
 abbrev pub address_of : Place → ℕ
@@ -44,7 +39,7 @@ shown_at places p = record {
 
 -- The calls of a history, each with room for 128 records, on a memory of 128 bytes of 0 and no devices.
 abbrev pub after_calls : List Call → Past
-after_calls cs = outcome (flat (zeros 128)) nothing (map (λ (c : Call). record { call = c; room = 128 }) cs)
+after_calls cs = outcome (flat (replicate 128 0)) nothing (map (λ (c : Call). record { call = c; room = 128 }) cs)
 
 -- A copy: two bytes from $10 to $20, up on both sides, through a 16-bit port that is memory.
 abbrev pub copy : List Call

@@ -1,5 +1,6 @@
 -- Histories of calls, from a new controller.
-use Rattle.std.specs.Prelude.{ℕ, zero, suc, Bool, true, false, cond, List, [], ◌∷◌, ◌++◌}
+use Rattle.std.specs.Prelude.{ℕ, zero, suc, Bool, true, false, cond, List, [], ◌∷◌, ◌++◌, Result}
+use Rattle.refusal.specs.declared.kinds.Refusal.{Refusal}
 use Rattle.registers.specs.declared.groups.Registers.{Registers}
 use Rattle.bus.specs.Memory.{MemoryMeaning}
 use Rattle.devices.specs.Bank.{BankMeaning}
@@ -31,7 +32,7 @@ abbrev pub beginning : MemoryMeaning → BankMeaning → Past
 beginning m b = record { machine = machine_of new_controller m b; books = λ n. empty_book; stores = [] }
 
 -- A store that was done adds its place.
-abbrev pub stores_noted : Call → Reply → List StoredAt → List StoredAt
+abbrev pub stores_noted : Call → Result Reply Refusal → List StoredAt → List StoredAt
 stores_noted (Store c a v) x l = cond (is_done x) (l ++ record { code = c; address = a } ∷ []) l
 stores_noted (ReadByte o) x l = l
 stores_noted (ReadWord o) x l = l

@@ -1,5 +1,5 @@
 -- The law over every history of calls: no operand is lost, moved twice or written elsewhere.
-use Rattle.std.specs.Prelude.{◌≡◌, ℕ, zero, suc, ◌*◌, ◌<◌, Bool, true, ◌⊎◌, List, [], ◌∷◌, ◌++◌, length, ◌≢◌}
+use Rattle.std.specs.Prelude.{◌≡◌, ℕ, zero, suc, ◌*◌, ◌<◌, Bool, true, ◌⊎◌, List, [], ◌∷◌, ◌++◌, length, Ok, ◌≢◌}
 use Rattle.registers.specs.declared.fault.Fault.{Fault}
 use Rattle.registers.specs.declared.fault.Fault.TheVariants.{MemoryBus, DeviceBus, BaseBus}
 use Rattle.registers.specs.declared.groups.Registers.{Registers}
@@ -98,7 +98,7 @@ pub record LawfulAt (m : MemoryMeaning) (p : Past) : Type 0 where
   pub cycles : (code : ℕ) (done : Bool)
       → ReplyTrue (step_called code done p.machine).reply p.machine (stepped code done p).machine
   pub errors : (code : ℕ) (done : Bool) (n : ℕ) (f : Fault)
-      → (step_called code done p.machine).reply ≡ Stepped (Recorded (Error n f))
+      → (step_called code done p.machine).reply ≡ Ok (Stepped (Recorded (Error n f)))
       → TouchesOnly n f p (stepped code done p)
 
 -- The law: over every memory and every bank, every history is lawful.

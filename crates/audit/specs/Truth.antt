@@ -1,5 +1,6 @@
 -- What a cycle tells is true of memory and devices.
-use Rattle.std.specs.Prelude.{◌≡◌, ℕ, List, [], ◌∷◌, ◌++◌, length}
+use Rattle.std.specs.Prelude.{◌≡◌, ℕ, List, [], ◌∷◌, ◌++◌, length, Ok, Err, Result}
+use Rattle.refusal.specs.declared.kinds.Refusal.{Refusal}
 use Rattle.registers.specs.Config.{is_single, is_inward}
 use Rattle.registers.specs.declared.groups.Config.{Config}
 use Rattle.bus.specs.Memory.{MemoryMeaning, byte_at}
@@ -11,7 +12,7 @@ use Rattle.dmac.specs.declared.answer.Answer.{Answer}
 use Rattle.dmac.specs.declared.answer.Answer.TheVariants.{Reset, Idle, Halted, Retry, Waiting, Recorded}
 use Rattle.dmac.specs.Step.{Machine}
 use Rattle.audit.specs.Operand.{Place, in_memory, in_device, bare_device}
-use Rattle.audit.specs.Calls.{Reply, Byte, Word, Done, Stepped, Ended, Refused}
+use Rattle.audit.specs.Calls.{Reply, Byte, Word, Done, Stepped, Ended}
 use Rattle.audit.specs.Book.{places_read, places_written, bytes_from, bytes_told}
 use Rattle.audit.specs.History.{registers_of}
 
@@ -60,10 +61,10 @@ AnswerTrue Halted old new = Unit {0}
 AnswerTrue Retry old new = Unit {0}
 AnswerTrue Waiting old new = Unit {0}
 
-abbrev pub ReplyTrue : Reply → Machine → Machine → Type 0
-ReplyTrue (Stepped x) old new = AnswerTrue x old new
-ReplyTrue (Byte v) old new = Unit {0}
-ReplyTrue (Word v) old new = Unit {0}
-ReplyTrue Done old new = Unit {0}
-ReplyTrue (Ended x) old new = Unit {0}
-ReplyTrue (Refused x) old new = Unit {0}
+abbrev pub ReplyTrue : Result Reply Refusal → Machine → Machine → Type 0
+ReplyTrue (Ok (Stepped x)) old new = AnswerTrue x old new
+ReplyTrue (Ok (Byte v)) old new = Unit {0}
+ReplyTrue (Ok (Word v)) old new = Unit {0}
+ReplyTrue (Ok Done) old new = Unit {0}
+ReplyTrue (Ok (Ended x)) old new = Unit {0}
+ReplyTrue (Err x) old new = Unit {0}

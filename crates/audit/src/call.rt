@@ -1,12 +1,11 @@
 // Calls as values.
 use dmac::answer::Answer;
 use dmac::run::Ran;
-use refusal::kinds::Refusal;
 
 // A call of the controller: a register byte or word read (offset) or written (offset, value), a request line set
 // (channel, level), a bus step (exception code, DONE), a byte stored for the processor (function code, address, value),
 // or a run of so many steps.
-#[derive(Clone, Copy)]
+#[derive(Clone, Copy, PartialEq, Eq, Debug)]
 pub enum Call {
     ReadByte(u8),
     ReadWord(u8),
@@ -18,7 +17,8 @@ pub enum Call {
     Run(u16),
 }
 
-// What a call replies: a register's byte or word, that it was done, what a step answered, what a run told, or its refusal.
+// What a call replies that is not refused: a register's byte or word, that it was done, what a step answered, or what a
+// run told.
 #[derive(Clone, Copy)]
 pub enum Reply {
     Byte(u8),
@@ -26,5 +26,4 @@ pub enum Reply {
     Done,
     Stepped(Answer),
     Ended(Ran),
-    Refused(Refusal),
 }

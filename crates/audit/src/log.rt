@@ -12,13 +12,14 @@ use cycle::record::Record;
 use devices::bank::DeviceBank;
 use dmac::controller::Dmac;
 use queue::Queue;
+use refusal::kinds::Refusal;
 
 // A call, how many places were free in the trace that it was given, and what it replied.
 #[derive(Clone, Copy)]
 pub struct Entry {
     pub call: Call,
     pub room: usize,
-    pub reply: Reply,
+    pub reply: Result<Reply, Refusal>,
 }
 
 // Makes the calls of a log on a new controller, one after the other, and writes the free places of the trace and the reply

@@ -1,6 +1,13 @@
 // A bank of devices, by what it means.
 ghost use Rattle.std.specs.Prelude.{◌≡◌, [], ◌∷◌};
-ghost use Rattle.devices.specs.Bank.{BankMeaning, can_give, can_take, give_tried, take_tried, byte_handed, word_handed};
+ghost use Rattle.devices.specs.Bank.{BankMeaning, can_give, can_take, give_tried, take_tried, byte_handed, word_handed, is_served};
+
+// Whether a device on the channel `served` serves a channel; there are only the channels 0 to 3.
+pub(crate) fn serves(served: u8, channel: u8) -> bool
+    ensures { result ≡ is_served served channel }
+{
+    channel == served && channel < 4
+}
 
 pub trait DeviceBank {
     ghost bank: { Self → BankMeaning };
@@ -30,12 +37,8 @@ pub trait DeviceBank {
         if !self.can_give(channel, 2) {
             return None;
         }
-        let Some(high) = self.give(channel) else {
-            return None;
-        };
-        let Some(low) = self.give(channel) else {
-            return None;
-        };
+        let high = self.give(channel)?;
+        let low = self.give(channel)?;
         Some((high, low))
     }
 

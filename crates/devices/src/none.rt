@@ -4,7 +4,7 @@ ghost use Rattle.devices.specs.Bank.{nothing};
 
 use crate::bank::DeviceBank;
 
-#[derive(Drop)]
+#[derive(PartialEq, Eq, Debug, Drop)]
 pub struct NoDevices;
 
 impl DeviceBank for NoDevices {

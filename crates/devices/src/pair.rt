@@ -4,8 +4,9 @@ ghost use Rattle.devices.specs.Bank.{pair};
 
 use crate::bank::DeviceBank;
 
-// Channels below `limit` are served by `first`, the others by `second`.
-#[derive(Drop)]
+// Channels below `limit` are served by `first`, the others by `second`. Each method asks its bank itself: a bank
+// chosen once for all four would be of two types, and each method would match on which.
+#[derive(PartialEq, Eq, Debug, Drop)]
 pub struct Pair<A: DeviceBank, B: DeviceBank> {
     limit: u8,
     pub first: A,

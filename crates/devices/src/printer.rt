@@ -1,9 +1,9 @@
 // A printer: bytes of one channel, kept in given places.
 ghost use Rattle.std.specs.Prelude.{◌≡◌, ◌-◌, min, [], ◌++◌, length, take, drop};
 ghost use Rattle.queue.specs.Queue.{held, capacity_of};
-ghost use Rattle.devices.specs.Bank.{printer, is_served};
+ghost use Rattle.devices.specs.Bank.{printer};
 
-use crate::bank::DeviceBank;
+use crate::bank::{DeviceBank, serves};
 use queue::{Queue, move_oldest};
 
 // `page` holds what was kept, the oldest first.
@@ -36,12 +36,6 @@ impl<'a> Printer<'a> {
     {
         move_oldest(&mut self.page, to, count)
     }
-
-    fn serves(&self, channel: u8) -> bool
-        ensures { result ≡ is_served self.now.channel channel }
-    {
-        channel == self.channel && channel < 4
-    }
 }
 
 impl<'a> DeviceBank for Printer<'a> {
@@ -52,11 +46,7 @@ impl<'a> DeviceBank for Printer<'a> {
     }
 
     fn can_take(&self, channel: u8, count: usize) -> bool {
-        if self.serves(channel) {
-            count <= self.page.capacity() - self.page.len()
-        } else {
-            count == 0
-        }
+        count == 0 || serves(self.channel, channel) && count <= self.page.room()
     }
 
     fn give(&mut self, channel: u8) -> Option<u8> {
@@ -64,7 +54,7 @@ impl<'a> DeviceBank for Printer<'a> {
     }
 
     fn take(&mut self, channel: u8, byte: u8) {
-        if self.serves(channel) {
+        if serves(self.channel, channel) {
             self.page.push(byte);
         }
     }

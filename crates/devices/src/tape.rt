@@ -1,11 +1,11 @@
 // A tape: given bytes, handed over on one channel.
 ghost use Rattle.std.specs.Prelude.{◌≡◌};
-ghost use Rattle.devices.specs.Bank.{tape, is_served};
+ghost use Rattle.devices.specs.Bank.{tape};
 
-use crate::bank::DeviceBank;
+use crate::bank::{DeviceBank, serves};
 
 // `rest` is what the tape has still to give.
-#[derive(Drop)]
+#[derive(PartialEq, Eq, Debug, Drop)]
 pub struct Tape<'a> {
     channel: u8,
     pub rest: &'a [u8],
@@ -22,10 +22,15 @@ impl<'a> Tape<'a> {
         }
     }
 
-    fn serves(&self, channel: u8) -> bool
-        ensures { result ≡ is_served self.now.channel channel }
+    // The bytes that wait on a channel.
+    fn waiting(&self, channel: u8) -> &'a [u8]
+        ensures { result.now ≡ (tape self.now.channel self.now.rest.now).waiting channel }
     {
-        channel == self.channel && channel < 4
+        if serves(self.channel, channel) {
+            self.rest
+        } else {
+            &[]
+        }
     }
 }
 
@@ -33,11 +38,7 @@ impl<'a> DeviceBank for Tape<'a> {
     ghost bank = { λ s. tape s.channel s.rest.now };
 
     fn can_give(&self, channel: u8, count: usize) -> bool {
-        if self.serves(channel) {
-            count <= self.rest.len()
-        } else {
-            count == 0
-        }
+        count <= self.waiting(channel).len()
     }
 
     fn can_take(&self, channel: u8, count: usize) -> bool {
@@ -45,12 +46,9 @@ impl<'a> DeviceBank for Tape<'a> {
     }
 
     fn give(&mut self, channel: u8) -> Option<u8> {
-        if !self.serves(channel) || self.rest.is_empty() {
-            return None;
-        }
-        let (first, rest) = self.rest.split_at(1);
+        let (first, rest) = self.waiting(channel).split_first()?;
         self.rest = rest;
-        Some(first[0])
+        Some(*first)
     }
 
     fn take(&mut self, channel: u8, byte: u8) {}

@@ -2,6 +2,7 @@
 use Rattle.std.specs.Prelude.{ℕ, ◌+◌, ◌-◌, cond, List, ◌++◌, length, take, drop, Option, nat_lt}
 use Rattle.std.specs.List.{slice_get}
 use Rattle.queue.specs.declared.ring.Queue.{Queue}
+use Rattle.queue.specs.declared.iter.Iter.{Iter}
 
 -- The slots in their order from the slot `head` on: after the last slot comes the first.
 abbrev pub from_head : {T : Type 0} → ℕ → List T → List T
@@ -22,3 +23,7 @@ item_at items index = slice_get items index
 -- The slot that is `offset` places after the slot `head`, of so many slots.
 abbrev pub slot_of : ℕ → ℕ → ℕ → ℕ
 slot_of head offset slots = cond (nat_lt offset (slots - head)) (head + offset) (offset - (slots - head))
+
+-- The elements that an iterator over a queue has still to give.
+abbrev pub left : {T : Type 0} → Iter T → List T
+left i = i.first.now ++ i.rest.now

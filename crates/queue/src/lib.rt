@@ -11,8 +11,12 @@
 // The slots are used as a ring, so nothing is ever shifted. The elements are of any plain (`Copy`) type.
 #![tactic(auto)]
 
+pub mod iter;
+pub mod moves;
 pub mod ring;
 #[cfg(test)]
 mod tests;
 
-pub use ring::{Queue, move_oldest};
+pub use iter::Iter;
+pub use moves::move_oldest;
+pub use ring::Queue;

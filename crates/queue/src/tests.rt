@@ -45,6 +45,10 @@ fn bytes_wrap_round(rt: HostRuntime) {
     assert!(rt; wraps(&mut queue, &[10, 11, 12, 13], &[14, 15, 16], &mut to));
     assert_eq!(rt; to, [10, 11]);
     assert_eq!(rt; shown(&queue), [Some(12), Some(14), Some(15), None]);
+    let (first, rest) = queue.as_slices();
+    assert_eq!(rt; first, [12].as_slice());
+    assert_eq!(rt; rest, [14, 15].as_slice());
+    assert!(rt; queue.iter().eq(&[12, 14, 15]));
 }
 
 #[test]
@@ -85,8 +89,10 @@ fn full_and_empty(rt: HostRuntime) {
     let mut queue = Queue::new(&mut slots);
     push_all(&mut queue, &[1, 2]);
     assert!(rt; queue.is_full() && !queue.is_empty() && queue.len() == 2);
+    assert_eq!(rt; queue.room(), 0);
     queue.clear();
     assert!(rt; queue.is_empty() && !queue.is_full() && queue.capacity() == 2);
+    assert_eq!(rt; queue.room(), 2);
 }
 
 #[test]

@@ -1,5 +1,5 @@
 // What a line of a script asks for.
-#[derive(Clone, Copy)]
+#[derive(Clone, Copy, PartialEq, Eq, Debug)]
 pub enum Command<'a> {
     Write { offset: u8, value: u8 },
     Read { offset: u8 },

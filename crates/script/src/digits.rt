@@ -3,7 +3,7 @@ ghost use Rattle.std.specs.Prelude.{◌≡◌};
 ghost use Rattle.script.specs.Digits.{hex_digit, all_digits};
 
 // The value of a capital hexadecimal digit.
-pub(crate) fn digit(code: u8) -> Option<u8>
+pub fn digit(code: u8) -> Option<u8>
     ensures { result ≡ hex_digit code }
 {
     match code {
@@ -14,13 +14,8 @@ pub(crate) fn digit(code: u8) -> Option<u8>
 }
 
 // Whether every byte of `codes` is a digit.
-pub(crate) fn all_digits(codes: &[u8]) -> bool
+pub fn all_digits(codes: &[u8]) -> bool
     ensures { result ≡ all_digits codes.now }
 {
-    for code in codes {
-        if digit(*code).is_none() {
-            return false;
-        }
-    }
-    true
+    codes.iter().all(|code| digit(*code).is_some())
 }

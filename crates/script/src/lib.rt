@@ -13,7 +13,7 @@
 #![tactic(auto)]
 
 pub mod command;
-mod digits;
+pub mod digits;
 pub mod lines;
 pub mod parse;
 #[cfg(test)]

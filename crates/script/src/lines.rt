@@ -1,25 +1,50 @@
 // A script is read line by line:
 //
-//     let mut rest = script;
-//     while !rest.is_empty() {
-//         let line = first_line(rest);
+//     for line in Lines::of(script) {
 //         ..
-//         rest = after_line(rest, line.len());
 //     }
 ghost use Rattle.std.specs.Prelude.{◌≡◌, ◌+◌, ◌≤◌, length, drop};
-ghost use Rattle.script.specs.Lines.{before_newline, first_line};
+ghost use Rattle.std.specs.Iterator.{YieldsFirstRef, item_count};
+ghost use Rattle.script.specs.Lines.{lines, before_newline, first_line};
+
+// The lines of a script, one after the other.
+#[derive(Drop)]
+pub struct Lines<'a> {
+    rest: &'a [u8],
+}
+
+impl<'a> Lines<'a> {
+    pub fn of(script: &'a [u8]) -> Lines<'a>
+        ensures { result.rest.now ≡ script.now }
+    {
+        Lines { rest: script }
+    }
+}
+
+impl<'a> Iterator for Lines<'a> {
+    type Item = &'a [u8];
+
+    ghost next_gives = { YieldsFirstRef (λ s. lines s.rest.now) };
+
+    ghost remaining = { item_count (λ s. lines s.rest.now) };
+
+    fn next(&mut self) -> Option<&'a [u8]> {
+        if self.rest.is_empty() {
+            return None;
+        }
+        let line = first_line(self.rest);
+        self.rest = after_line(self.rest, line.len());
+        Some(line)
+    }
+}
 
 // The place of the first newline, or the end.
 fn line_end(script: &[u8]) -> usize
     ensures value { result ≡ before_newline script.now }
     ensures within { result ≤ length script.now }
 {
-    for (place, code) in script.iter().enumerate() {
-        if *code == b'\n' {
-            return place;
-        }
-    }
-    script.len()
+    let newline = script.iter().position(|code| *code == b'\n');
+    newline.unwrap_or(script.len())
 }
 
 // The first line of a script, without its newline.

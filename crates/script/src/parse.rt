@@ -1,42 +1,41 @@
 // What a line says: the numbers in it, then one function for each form of line, then the choice by the letter.
-ghost use Rattle.std.specs.Prelude.{◌≡◌, ◌+◌, ◌<◌, length};
+ghost use Rattle.std.specs.Prelude.{◌≡◌, [], ◌∷◌};
 ghost use Rattle.script.specs.Command.{said, pair_at, address_at, write_line, read_line, fill_line, show_line, run_line, by_letter, parsed};
 
 use crate::command::Command;
 use crate::digits::{all_digits, digit};
 use refusal::kinds::Refusal;
 
-// The byte that the two digits at `place` spell.
-fn pair_at(line: &[u8], place: usize) -> Result<u8, Refusal>
-    requires { place + 1 < length line.now }
-    ensures { result ≡ pair_at line.now place }
+// The byte that two digits spell.
+fn pair(high: u8, low: u8) -> Result<u8, Refusal>
+    ensures { result ≡ pair_at (high ∷ low ∷ []) 0 }
 {
-    match (digit(line[place]), digit(line[place + 1])) {
+    match (digit(high), digit(low)) {
         (Some(high), Some(low)) => Ok(16 * high + low),
         _ => Err(Refusal::NoCommand),
     }
 }
 
-// The address that the six digits at `place` spell.
-fn address_at(line: &[u8], place: usize) -> Result<u32, Refusal>
-    requires { place + 5 < length line.now }
-    ensures { result ≡ address_at line.now place }
+// The address that six digits spell.
+fn address(digits: [u8; 6]) -> Result<u32, Refusal>
+    ensures { result ≡ address_at digits 0 }
 {
-    let high = pair_at(line, place)?;
-    let mid = pair_at(line, place + 2)?;
-    let low = pair_at(line, place + 4)?;
-    Ok(65536 * high as u32 + 256 * mid as u32 + low as u32)
+    let [a, b, c, d, e, f] = digits;
+    let high = pair(a, b)?;
+    let mid = pair(c, d)?;
+    let low = pair(e, f)?;
+    Ok(u32::from_be_bytes([0, high, mid, low]))
 }
 
 // `W oo vv`
 fn write_line<'a>(line: &'a [u8]) -> Result<Command<'a>, Refusal>
     ensures { said result ≡ write_line line.now }
 {
-    if line.len() != 7 || line[1] != b' ' || line[4] != b' ' {
+    let &[_, b' ', a, b, b' ', c, d] = line else {
         return Err(Refusal::NoCommand);
-    }
-    let offset = pair_at(line, 2)?;
-    let value = pair_at(line, 5)?;
+    };
+    let offset = pair(a, b)?;
+    let value = pair(c, d)?;
     Ok(Command::Write { offset, value })
 }
 
@@ -44,10 +43,10 @@ fn write_line<'a>(line: &'a [u8]) -> Result<Command<'a>, Refusal>
 fn read_line<'a>(line: &'a [u8]) -> Result<Command<'a>, Refusal>
     ensures { said result ≡ read_line line.now }
 {
-    if line.len() != 4 || line[1] != b' ' {
+    let &[_, b' ', a, b] = line else {
         return Err(Refusal::NoCommand);
-    }
-    let offset = pair_at(line, 2)?;
+    };
+    let offset = pair(a, b)?;
     Ok(Command::Read { offset })
 }
 
@@ -55,15 +54,14 @@ fn read_line<'a>(line: &'a [u8]) -> Result<Command<'a>, Refusal>
 fn fill_line<'a>(line: &'a [u8]) -> Result<Command<'a>, Refusal>
     ensures { said result ≡ fill_line line.now }
 {
-    let len = line.len();
-    if len < 11 || len > 41 || len % 2 != 1 || line[1] != b' ' || line[8] != b' ' {
+    let [_, b' ', a, b, c, d, e, f, b' ', digits @ ..] = line else {
+        return Err(Refusal::NoCommand);
+    };
+    let len = digits.len();
+    if len < 2 || len > 32 || len % 2 != 0 || !all_digits(digits) {
         return Err(Refusal::NoCommand);
     }
-    let (_, digits) = line.split_at(9);
-    if !all_digits(digits) {
-        return Err(Refusal::NoCommand);
-    }
-    let address = address_at(line, 2)?;
+    let address = address([*a, *b, *c, *d, *e, *f])?;
     Ok(Command::Fill { address, digits })
 }
 
@@ -71,11 +69,11 @@ fn fill_line<'a>(line: &'a [u8]) -> Result<Command<'a>, Refusal>
 fn show_line<'a>(line: &'a [u8]) -> Result<Command<'a>, Refusal>
     ensures { said result ≡ show_line line.now }
 {
-    if line.len() != 11 || line[1] != b' ' || line[8] != b' ' {
+    let &[_, b' ', a, b, c, d, e, f, b' ', g, h] = line else {
         return Err(Refusal::NoCommand);
-    }
-    let address = address_at(line, 2)?;
-    let count = pair_at(line, 9)?;
+    };
+    let address = address([a, b, c, d, e, f])?;
+    let count = pair(g, h)?;
     Ok(Command::Show { address, count })
 }
 
@@ -83,10 +81,10 @@ fn show_line<'a>(line: &'a [u8]) -> Result<Command<'a>, Refusal>
 fn run_line<'a>(line: &'a [u8]) -> Result<Command<'a>, Refusal>
     ensures { said result ≡ run_line line.now }
 {
-    if line.len() != 4 || line[1] != b' ' {
+    let &[_, b' ', a, b] = line else {
         return Err(Refusal::NoCommand);
-    }
-    let steps = pair_at(line, 2)?;
+    };
+    let steps = pair(a, b)?;
     Ok(Command::Run { steps })
 }
 
@@ -108,8 +106,8 @@ fn by_letter<'a>(letter: char, line: &'a [u8]) -> Result<Command<'a>, Refusal>
 pub fn parse<'a>(line: &'a [u8]) -> Result<Command<'a>, Refusal>
     ensures { said result ≡ parsed line.now }
 {
-    if line.is_empty() {
-        return Err(Refusal::NoCommand);
+    match line {
+        [letter, ..] => by_letter(char::from(*letter), line),
+        [] => Err(Refusal::NoCommand),
     }
-    by_letter(char::from(line[0]), line)
 }

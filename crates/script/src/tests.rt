@@ -1,37 +1,46 @@
 use crate::command::Command;
-use crate::lines::{after_line, first_line};
+use crate::lines::{Lines, after_line, first_line};
 use crate::parse::parse;
-use crate::text::{byte_at, data_count, put_byte, put_ok, put_refusal};
+use crate::text::{DataBytes, byte_at, data_count, put_byte, put_ok, put_refusal};
 use refusal::kinds::Refusal;
 use std::test::Fail;
-
-// The letter and the numbers of a command, and of a fill its address and first byte.
-fn parts(line: &str) -> (u8, u32, u8) {
-    match parse(line.as_bytes()) {
-        Ok(Command::Write { offset, value }) => (b'W', u32::from(offset), value),
-        Ok(Command::Read { offset }) => (b'R', u32::from(offset), 0),
-        Ok(Command::Fill { address, digits }) => (b'F', address, byte_at(digits, 0)),
-        Ok(Command::Show { address, count }) => (b'M', address, count),
-        Ok(Command::Run { steps }) => (b'S', 0, steps),
-        Err(refusal) => (b'E', 0, refusal.number()),
-    }
-}
 
 #[test]
 fn good_lines(rt: HostRuntime) {
     let lines = [
-        ("W 05 2A", (b'W', 0x05, 0x2A)),
-        ("R F0", (b'R', 0xF0, 0)),
-        ("F 00010A 7F", (b'F', 0x00010A, 0x7F)),
+        (
+            "W 05 2A",
+            Command::Write {
+                offset: 0x05,
+                value: 0x2A,
+            },
+        ),
+        ("R F0", Command::Read { offset: 0xF0 }),
+        (
+            "F 00010A 7F",
+            Command::Fill {
+                address: 0x00010A,
+                digits: b"7F",
+            },
+        ),
         (
             "F 123456 0F0102030405060708090A0B0C0D0E00",
-            (b'F', 0x123456, 0x0F),
+            Command::Fill {
+                address: 0x123456,
+                digits: b"0F0102030405060708090A0B0C0D0E00",
+            },
         ),
-        ("M FFFFFE 00", (b'M', 0xFFFFFE, 0)),
-        ("S FF", (b'S', 0, 0xFF)),
+        (
+            "M FFFFFE 00",
+            Command::Show {
+                address: 0xFFFFFE,
+                count: 0,
+            },
+        ),
+        ("S FF", Command::Run { steps: 0xFF }),
     ];
     for (line, said) in lines {
-        assert_eq!(rt; parts(line), said, "{}", line);
+        assert_eq!(rt; parse(line.as_bytes()), Ok(said), "{}", line);
     }
 }
 
@@ -63,7 +72,7 @@ fn bad_lines(rt: HostRuntime) {
         "X 00",
     ];
     for line in lines {
-        assert_eq!(rt; parts(line), (b'E', 0, 6), "{}", line);
+        assert_eq!(rt; parse(line.as_bytes()), Err(Refusal::NoCommand), "{}", line);
     }
 }
 
@@ -72,6 +81,8 @@ fn data_of_a_fill(rt: HostRuntime) {
     assert_eq!(rt; data_count(b"007F0"), 2);
     assert_eq!(rt; byte_at(b"007F0", 1), 0x7F);
     assert_eq!(rt; byte_at(b"007F0", 2), 0);
+    assert_eq!(rt; DataBytes::of(b"007F0").nth(1), Some(0x7F));
+    assert_eq!(rt; DataBytes::of(b"007F0").nth(2), None);
 }
 
 #[test]
@@ -81,6 +92,9 @@ fn lines_of_a_script(rt: HostRuntime) {
     assert!(rt; after_line(script, 4) == b"R 01".as_slice());
     assert!(rt; after_line(script, 9).is_empty());
     assert!(rt; first_line(b"\nR 01").is_empty());
+    assert!(rt; Lines::of(script).nth(0) == Some(b"R 00".as_slice()));
+    assert!(rt; Lines::of(script).nth(1) == Some(b"R 01".as_slice()));
+    assert!(rt; Lines::of(script).nth(2).is_none());
 }
 
 #[test]

@@ -1,5 +1,5 @@
 -- Each turn logs one entry; at the end all are logged, and tell a lawful history.
-use Rattle.std.proofs.Common.{ℕ, ◌-◌, ◌<◌, ◌≤◌, length, ◌∙◌, ap₂, arith, rules}
+use Rattle.std.proofs.Common.{ℕ, ◌-◌, ◌<◌, ◌≤◌, length, Ok, ◌∙◌, ap₂, arith}
 use Rattle.queue.specs.Queue.{held, capacity_of}
 use Rattle.dmac.specs.Controller.{new_controller}
 use Rattle.dmac.specs.Step.{machine_of}
@@ -8,13 +8,10 @@ use Rattle.audit.specs.Played.{calls_of, played}
 use Rattle.audit.proofs.Logs.{turn_again, play_end, played_lawfully}
 use Rattle.audit.proofs.log.play.Goals as goal
 
-pub loop-entry-init : goal.loop-entry-init
-loop-entry-init g c = search rules
-
 pub loop-entry-preserved : goal.loop-entry-preserved
 loop-entry-preserved g c =
     let lt : c.loop-entry.entry-index < length c.loop-entry.log = omega (arith, c.loop-entry.auto.log) in (
-      turn_again c.loop-entry.log c.loop-entry.entry-index (record { call = ReadByte 0; room = 0; reply = Byte 0 })
+      turn_again c.loop-entry.log c.loop-entry.entry-index (record { call = ReadByte 0; room = 0; reply = Ok (Byte 0) })
           (capacity_of c.loop-entry.trace) (capacity_of c.perform-entry.new.trace) (c.capacity.result - c.len.result)
           (machine_of c.loop-entry.dmac (g.M.Memory.means c.loop-entry.memory) (g.D.DeviceBank.bank c.loop-entry.devices))
           (held c.loop-entry.trace)

@@ -1,21 +1,14 @@
--- The byte at the place ends the line, or belongs to it.
-use Rattle.std.proofs.Common.{◌≡◌, ℕ, ◌+◌, ◌<◌, ◌≤◌, cond, eqb, List, length, get_or, drop, rules}
-use Rattle.std.proofs.lemmas.List.{at_drop_more, at_drop_all}
+-- The first newline ends the line.
+use Rattle.std.proofs.Common.{◌≡◌, ℕ, ◌+◌, ◌<◌, ◌≤◌, true, false, List, length, get_or, refl, ◌∙◌, sym, eqb, arith, rules}
+use Rattle.std.proofs.lemmas.List.Recursion.{is_position_or_len}
+use Rattle.std.proofs.lemmas.List.Sums.{position_or_len_is}
 use Rattle.script.specs.Lines.{before_newline}
 use Rattle.script.proofs.lines.line_end.Goals as goal
 
-next : (s : List ℕ) (i : ℕ) → i < length s →
-    before_newline (drop i s) ≡ cond (eqb (get_or s i 0) 10) 0 (before_newline (drop (i + 1) s) + 1)
-next s i h = at_drop_more before_newline s i 0 h
+first_newline : (s : List ℕ) (i : ℕ) → i ≤ length s → ((k : ℕ) → k < i → eqb (get_or s k 0) 10 ≡ false) → (i < length s → eqb (get_or s i 0) 10 ≡ true) → i ≡ before_newline s
+first_newline s i w before at =
+    sym (is_position_or_len before_newline (λ code. eqb code 10) refl (λ _ s. let e : before_newline s + 1 ≡ 1 + before_newline s = omega arith in rw e refl) s
+    ∙ position_or_len_is (λ code. eqb code 10) s i 0 w before at)
 
-done : (s : List ℕ) (i : ℕ) → length s ≤ i → before_newline (drop i s) ≡ 0
-done s i h = at_drop_all before_newline s i h
-
-pub returns-then-code-eq10 : goal.returns-then-code-eq10
-returns-then-code-eq10 c = search (rules, next)
-
-pub loop-place-preserved : goal.loop-place-preserved
-loop-place-preserved c = search (rules, next)
-
-pub returns : goal.returns
-returns c = search (rules, done)
+pub returns-clause-value : goal.returns-clause-value
+returns-clause-value c = first_newline c.args.script.now c.unwrap_or.result (search rules) (search rules) (search rules)

@@ -3,5 +3,5 @@ use Rattle.std.proofs.Common.{rules}
 use Rattle.queue.proofs.Slots.{skipped}
 use Rattle.queue.proofs.ring.Queue.skip.Goals as goal
 
-pub returns : goal.returns
-returns g c = search (rules, skipped)
+pub returns-clause-items : goal.returns-clause-items
+returns-clause-items g c = search (rules, skipped)
