@@ -1,4 +1,5 @@
 // The fields of a line, and the numbers and bytes that they spell.
+use script::digits::digit;
 use std::alloc::{AllocError, Global};
 use std::num::TryFromIntError;
 
@@ -25,15 +26,6 @@ impl From<TryFromIntError> for LineError {
 // The fields of a line, which one blank separates.
 pub fn fields_of<'a>(heap: Global, line: &'a [u8]) -> Result<Vec<&'a [u8]>, AllocError> {
     line.split(|code| *code == b' ').collect(heap)
-}
-
-// The value of a capital hexadecimal digit.
-fn digit(code: u8) -> Option<u8> {
-    match code {
-        b'0'..=b'9' => Some(code - b'0'),
-        b'A'..=b'F' => Some(code - b'A' + 10),
-        _ => None,
-    }
 }
 
 // What a digit more makes of a number.

@@ -184,10 +184,8 @@ fn put_page<W: Write>(page: &Queue<'_, u8>, out: &mut W) -> io::Result<()> {
     if page.is_empty() {
         write!(out, "-")?;
     }
-    for index in 0..page.len() {
-        if let Some(byte) = page.get(index) {
-            write!(out, "{byte:02X}")?;
-        }
+    for byte in page.iter() {
+        write!(out, "{byte:02X}")?;
     }
-    write!(out, " / {}", page.capacity().saturating_sub(page.len()))
+    write!(out, " / {}", page.room())
 }

@@ -93,7 +93,6 @@ impl fmt::Display for Shown<Reply> {
             Reply::Done => f.write_str("ok"),
             Reply::Stepped(answer) => write!(f, "{}", Shown(answer)),
             Reply::Ended(Ran { ending, records }) => write!(f, "{} {records}", Shown(ending)),
-            Reply::Refused(refusal) => write!(f, "refused {}", refusal.number()),
         }
     }
 }
