@@ -1,9 +1,9 @@
 -- Every call keeps the invariant of every channel.
-use Rattle.std.proofs.Common.{◌≡◌, ℕ, zero, suc, ◌+◌, ◌/◌, ◌%◌, ◌<◌, Bool, true, false, cond, ◌&&◌, eqb, ltb, List, [], ◌∷◌, length, get_or, set, Some, None, Option, sym, refl, ap, ◌∙◌, subst, arith, length-set}
+use Rattle.std.proofs.Common.{◌≡◌, ℕ, zero, suc, ◌+◌, ◌/◌, ◌%◌, ◌<◌, Bool, true, false, cond, ◌&&◌, eqb, ltb, List, [], ◌∷◌, length, get_or, set, Some, None, Option, Result, sym, refl, ap, ◌∙◌, subst, arith, length-set}
 use Rattle.std.proofs.lemmas.Bool.{cond_both}
 use lib.Bits.{bit_and}
 use Rattle.refusal.specs.declared.kinds.Refusal.{Refusal}
-use Rattle.refusal.specs.declared.kinds.Refusal.TheVariants.{NoRegister, OddWord, StartByWord, NoChannel}
+use Rattle.refusal.specs.declared.kinds.Refusal.TheVariants.{NoRegister, OddWord, StartByWord}
 use Rattle.registers.specs.Bits.{any, odd}
 use Rattle.registers.specs.Checks.{check}
 use Rattle.registers.specs.Config.{is_chained}
@@ -20,10 +20,10 @@ use Rattle.channel.specs.State.{blank_channel}
 use Rattle.channel.specs.Write.{written}
 use Rattle.dmac.specs.declared.controller.Dmac.{Dmac}
 use Rattle.dmac.specs.Controller.{new_controller, channel_at}
-use Rattle.dmac.specs.Access.{register_of, register_after, reach_of, reach_after, is_nowhere, is_general, is_control, is_no_word, starts_by_word, word_refusal, refused, accepted, taken_in, word_taken_in, word_written_by}
+use Rattle.dmac.specs.Access.{Outcome as Answered, register_of, register_after, reach_of, reach_after, is_nowhere, is_general, is_control, is_no_word, starts_by_word, word_refusal, taken_in, word_taken_in, word_written_by}
 use Rattle.dmac.specs.Choice.{chosen}
 use Rattle.dmac.specs.Step.{Machine}
-use Rattle.audit.specs.Calls.{Call, ReadByte, ReadWord, WriteByte, WriteWord, SetLine, Step, Store, Called, Stepped, done_replied, replied, with_dmac, byte_write_called, word_write_called, line_called, step_called, store_called}
+use Rattle.audit.specs.Calls.{Call, ReadByte, ReadWord, WriteByte, WriteWord, SetLine, Step, Store, Called, Stepped, done_replied, replied, with_dmac, byte_read_called, word_read_called, byte_write_called, word_write_called, line_called, step_called, store_called}
 use Rattle.audit.specs.Book.{Book, half_noted, is_done, step_noted, call_noted, settled_before, book_fed}
 use Rattle.audit.specs.History.{Past, beginning, registers_of, noted}
 use Rattle.audit.proofs.Basics.{no, at_set_alone}
@@ -75,15 +75,13 @@ byte_general a p q v r b e = subst (λ (z : Access). half_noted (barred_by z fal
 
 byte_goes : (o v : ℕ) (s : Machine) (B : ℕ → Book) → Kept s B
     → Kept (byte_write_called o v s).machine (λ n. call_noted (WriteByte o v) (byte_write_called o v s).reply n (registers_of n s) (B n))
-byte_goes o v s B g = go (is_nowhere (register_of o))
-  where
-    go : (t : Bool) → Kept (with_dmac (cond t (refused NoRegister s.dmac) (accepted (taken_in (o / 64) Nowhere 0 (reach_of o s.dmac) v s.dmac))).state s)
-        (λ n. cond (is_done (done_replied (cond t (refused NoRegister s.dmac) (accepted (taken_in (o / 64) Nowhere 0 (reach_of o s.dmac) v s.dmac))).answer) && eqb (o / 64) n) (half_noted (register_of o) v (registers_of n s) (B n)) (B n))
-    go true = record { four = g.four; each = g.each }
-    go false =
-        taken_goes (o / 64) Nowhere (reach_of o s.dmac) 0 v (λ r b. half_noted (register_of o) v r b) s B g
-        (λ e r b. byte_general (register_at (o / 64) (o % 64)) _ _ v r b e)
-        (λ h. byte_inv (register_at (o / 64) (o % 64)) v (channel_at (o / 64) s.dmac) (B (o / 64)) (g.each (o / 64) h))
+byte_goes o v s B g =
+    cond_both (is_nowhere (register_of o)) _ _
+    (λ (y : Answered (Result (Unit {0}) Refusal)). Kept (with_dmac y.state s) (λ n. cond (is_done (done_replied y.answer) && eqb (o / 64) n) (half_noted (register_of o) v (registers_of n s) (B n)) (B n)))
+    (λ _. record { four = g.four; each = g.each })
+    (λ _. taken_goes (o / 64) Nowhere (reach_of o s.dmac) 0 v (λ r b. half_noted (register_of o) v r b) s B g
+    (λ e r b. byte_general (register_at (o / 64) (o % 64)) _ _ v r b e)
+    (λ h. byte_inv (register_at (o / 64) (o % 64)) v (channel_at (o / 64) s.dmac) (B (o / 64)) (g.each (o / 64) h)))
 
 -- A word that was not refused.
 word_made : (o v : ℕ) (s : Machine) (B : ℕ → Book) → odd o ≡ false → starts_by_word o v ≡ false → Kept s B
@@ -124,15 +122,14 @@ word_goes o v s B g = go (word_refusal o (starts_by_word o v)) refl
 
 -- A request line.
 line_goes : (n : ℕ) (on : Bool) (s : Machine) (B : ℕ → Book) → Kept s B → Kept (line_called n on s).machine B
-line_goes n on s B g = go (ltb n 4)
-  where
-    go : (t : Bool) → Kept (with_dmac (cond t (accepted (record { channels = set s.dmac.channels n (line_set on (channel_at n s.dmac)); gcr = s.dmac.gcr; last = s.dmac.last; bus = s.dmac.bus })) (refused NoChannel s.dmac)).state s) B
-    go true = record {
+line_goes n on s B g =
+    cond_both (ltb n 4) _ _ (λ (y : Answered (Result (Unit {0}) Refusal)). Kept (with_dmac y.state s) B)
+    (λ _. record {
       four = length-set s.dmac.channels n (line_set on (channel_at n s.dmac)) ∙ g.four;
       each = λ d h. at_set_alone (λ x. InvX x (B d)) s.dmac.channels n d (line_set on (channel_at n s.dmac)) blank_channel (within s B d g h)
           (λ e. subst (λ (m : ℕ). InvX (channel_at m s.dmac) (B d)) (sym e) (g.each d h)) (g.each d h);
-    }
-    go false = record { four = g.four; each = g.each }
+    })
+    (λ _. record { four = g.four; each = g.each })
 
 -- A step.
 step_goes : (code : ℕ) (done : Bool) (s : Machine) (B : ℕ → Book) → Kept s B
@@ -149,13 +146,13 @@ settled_kept s B g = record { four = g.four; each = λ n h. inv_settled (channel
 abbrev After : Call → Called → Past → Type 0
 After c o p = Kept (noted c o p).machine (noted c o p).books
 
-pub read_byte_kept : (o : ℕ) (x : Called) (p : Past) → x.machine ≡ p.machine → Kept p.machine p.books → After (ReadByte o) x p
+pub read_byte_kept : (o : ℕ) (p : Past) → Kept p.machine p.books → After (ReadByte o) (byte_read_called o p.machine) p
 unfolding book_fed
-read_byte_kept o x p e g = subst (λ (s : Machine). Kept s (λ n. settled_before (registers_of n p.machine) (p.books n))) (sym e) (settled_kept p.machine p.books g)
+read_byte_kept o p g = settled_kept p.machine p.books g
 
-pub read_word_kept : (o : ℕ) (x : Called) (p : Past) → x.machine ≡ p.machine → Kept p.machine p.books → After (ReadWord o) x p
+pub read_word_kept : (o : ℕ) (p : Past) → Kept p.machine p.books → After (ReadWord o) (word_read_called o p.machine) p
 unfolding book_fed
-read_word_kept o x p e g = subst (λ (s : Machine). Kept s (λ n. settled_before (registers_of n p.machine) (p.books n))) (sym e) (settled_kept p.machine p.books g)
+read_word_kept o p g = settled_kept p.machine p.books g
 
 pub write_byte_kept : (o v : ℕ) (p : Past) → Kept p.machine p.books → After (WriteByte o v) (byte_write_called o v p.machine) p
 unfolding book_fed

@@ -1,7 +1,7 @@
 -- A carried-out cycle of an operand keeps the invariant.
-use Rattle.std.proofs.Common.{◌≡◌, ℕ, suc, ◌+◌, ◌-◌, Bool, true, false, cond, eqb, List, [], ◌∷◌, ◌++◌, length, drop, sym, refl, ap, ◌∙◌, subst, ap₂, append_assoc, append-nil, add-one, arith, length-append}
+use Rattle.std.proofs.Common.{◌≡◌, ℕ, suc, ◌+◌, ◌-◌, Bool, true, false, eqb, List, [], ◌∷◌, ◌++◌, length, drop, sym, refl, ap, ◌∙◌, subst, ap₂, append_assoc, append-nil, add-one, arith, length-append}
 use Rattle.std.proofs.lemmas.List.{nil_from_length}
-use Rattle.std.proofs.lemmas.Bool.{eqb-true, eq-eqb, ne_eqb, and_parts}
+use Rattle.std.proofs.lemmas.Bool.{eqb-true, eq-eqb, ne_eqb, and_parts, cond_both}
 use Rattle.registers.specs.Config.{is_single, is_inward, is_misplaced, size_of, bytes_of, next_mar, next_dar}
 use Rattle.registers.specs.Status.{is_active}
 use Rattle.registers.specs.declared.groups.Config.{Config}
@@ -18,7 +18,6 @@ use Rattle.cycle.specs.declared.plan.Side.{Side}
 use Rattle.cycle.specs.declared.plan.Side.TheVariants.{Memory, Device}
 use Rattle.cycle.specs.declared.plan.Slot.{Slot}
 use Rattle.cycle.specs.declared.record.Data.{Data}
-use Rattle.cycle.specs.declared.record.Kind.TheVariants.{Read, Write}
 use Rattle.cycle.specs.Plan.{plan}
 use Rattle.cycle.specs.Held.{held_first}
 use Rattle.cycle.specs.Carry.{count_of, held_after, slot_code_by, slot_address_by, slot_code, slot_address}
@@ -214,11 +213,8 @@ address_same Device o x = refl
 pub cycle_moves : (y : Way) (k : Config) (f a : ℕ) (vs : List ℕ) (r : Registers) (b : Book) → cycle_noted (kind_by y k) f a vs r b ≡ move_noted (kind_by y k) f a vs r b
 cycle_moves Source k f a vs r b = refl
 cycle_moves Destination k f a vs r b = refl
-cycle_moves Through k f a vs r b = go (is_inward k)
-  where
-    go : (t : Bool) → cycle_noted (cond t Write Read) f a vs r b ≡ move_noted (cond t Write Read) f a vs r b
-    go true = refl
-    go false = refl
+cycle_moves Through k f a vs r b =
+    cond_both (is_inward k) _ _ (λ y. cycle_noted y f a vs r b ≡ move_noted y f a vs r b) (λ _. refl) (λ _. refl)
 
 -- A carried-out cycle: number k of the plan, and whether it is the last.
 pub carried_inv : (last : Bool) (k : ℕ) (h : Held) (done : Bool) (q : Slot) (v : Data) (x : Channel) (b : Book)

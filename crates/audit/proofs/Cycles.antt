@@ -1,10 +1,10 @@
 -- What every step answers of a cycle is true.
 use Rattle.std.proofs.Common.{◌≡◌, ℕ, ◌+◌, ◌<◌, Bool, true, false, cond, leb, List, ◌∷◌, ◌++◌, length, drop, Some, None, Option, sym, refl, ap, ◌∙◌, subst, append-nil, arith}
-use Rattle.std.proofs.lemmas.Bool.{and_parts}
+use Rattle.std.proofs.lemmas.Bool.{and_parts, cond_both}
 use Rattle.registers.specs.Config.{is_single, is_inward}
 use Rattle.registers.specs.Status.{is_active}
 use Rattle.registers.specs.declared.groups.Config.{Config}
-use Rattle.devices.specs.Bank.{BankMeaning, can_give, can_take, given, taken}
+use Rattle.devices.specs.Bank.{BankMeaning, can_give, can_take}
 use Rattle.channel.specs.declared.state.Channel.{Channel}
 use Rattle.cycle.specs.declared.carry.End.{End}
 use Rattle.cycle.specs.declared.carry.End.TheVariants.{InMemory, InDevice, InChannel}
@@ -51,29 +51,17 @@ kind_true Through k n f a vs old new h = go (is_inward k) h
 put_waiting : (e : End) (v : Data) (n : ℕ) (b : BankMeaning) → (bank_put e v n b).waiting ≡ b.waiting
 put_waiting InMemory v n b = refl
 put_waiting InChannel v n b = refl
-put_waiting InDevice v n b = go (can_take n (length (data_bytes v)) b)
-  where
-    go : (t : Bool) → (cond t (taken n (data_bytes v) b) b).waiting ≡ b.waiting
-    go true = refl
-    go false = refl
+put_waiting InDevice v n b = cond_both (can_take n (length (data_bytes v)) b) _ _ (λ (y : BankMeaning). y.waiting ≡ b.waiting) (λ _. refl) (λ _. refl)
 
 got_kept : (e : End) (n : ℕ) (w : Bool) (b : BankMeaning) → (bank_got e n w b).kept ≡ b.kept
 got_kept InMemory n w b = refl
 got_kept InChannel n w b = refl
-got_kept InDevice n w b = go (can_give n (count_of w) b)
-  where
-    go : (t : Bool) → (cond t (given n (count_of w) b) b).kept ≡ b.kept
-    go true = refl
-    go false = refl
+got_kept InDevice n w b = cond_both (can_give n (count_of w) b) _ _ (λ (y : BankMeaning). y.kept ≡ b.kept) (λ _. refl) (λ _. refl)
 
 got_free : (e : End) (n : ℕ) (w : Bool) (b : BankMeaning) → (bank_got e n w b).free ≡ b.free
 got_free InMemory n w b = refl
 got_free InChannel n w b = refl
-got_free InDevice n w b = go (can_give n (count_of w) b)
-  where
-    go : (t : Bool) → (cond t (given n (count_of w) b) b).free ≡ b.free
-    go true = refl
-    go false = refl
+got_free InDevice n w b = cond_both (can_give n (count_of w) b) _ _ (λ (y : BankMeaning). y.free ≡ b.free) (λ _. refl) (λ _. refl)
 
 ready_still : (d e : End) (n : ℕ) (w : Bool) (b : BankMeaning) → is_destination_ready d n w b ≡ true → is_destination_ready d n w (bank_got e n w b) ≡ true
 ready_still InMemory e n w b h = h

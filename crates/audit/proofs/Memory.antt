@@ -1,8 +1,7 @@
 -- Memory changes only at the destination of an operand that was named, or at a store's place.
-use Rattle.std.proofs.Common.{◌≡◌, ℕ, suc, ◌+◌, ◌<◌, Bool, true, false, cond, ◌&&◌, eqb, ◌⊎◌, List, [], ◌∷◌, ◌++◌, length, drop, Some, None, Ok, Err, Option, Result, sym, refl, ap, ◌∙◌, subst, inl, inr, ⊎_elim, arith}
+use Rattle.std.proofs.Common.{◌≡◌, ℕ, suc, ◌+◌, ◌<◌, Bool, true, false, cond, ◌&&◌, eqb, ◌⊎◌, List, [], ◌∷◌, ◌++◌, length, drop, Some, None, Option, Result, sym, refl, ap, ◌∙◌, subst, inl, inr, ⊎_elim, arith}
 use Rattle.refusal.specs.declared.kinds.Refusal.{Refusal}
-use Rattle.refusal.specs.declared.kinds.Refusal.TheVariants.{NoPlace}
-use Rattle.std.proofs.lemmas.Bool.{and_parts, eqb-true}
+use Rattle.std.proofs.lemmas.Bool.{and_parts, eqb-true, cond_both}
 use Rattle.registers.specs.Config.{is_single, is_inward, is_device_memory}
 use Rattle.registers.specs.Status.{is_active}
 use Rattle.registers.specs.declared.groups.Config.{Config}
@@ -25,8 +24,8 @@ use Rattle.dmac.specs.Controller.{channel_at}
 use Rattle.dmac.specs.Choice.{chosen}
 use Rattle.dmac.specs.Step.{Machine, Stepped as StepDone, step_chosen, step_on}
 use Rattle.audit.specs.Operand.{Place, in_memory, in_device, bare_device, Move, Operand, paired, operand, operands}
-use Rattle.audit.specs.Calls.{Call, ReadByte, ReadWord, WriteByte, WriteWord, SetLine, Step, Store, Run, Reply, Called, done_replied, store_called, step_called}
-use Rattle.audit.specs.Book.{Book, bytes_told, bytes_from, places_written, is_done, settled_before, nothing_gathered}
+use Rattle.audit.specs.Calls.{Call, ReadByte, ReadWord, WriteByte, WriteWord, SetLine, Step, Store, Run, Reply, Called, done_replied, with_memory, store_called, step_called}
+use Rattle.audit.specs.Book.{Book, bytes_told, bytes_from, places_written, is_done, settled_before}
 use Rattle.audit.specs.History.{Past, StoredAt, stores_noted, noted, stepped, registers_of}
 use Rattle.audit.specs.Law.{SomeOf, IsByte, IsDestination, IsMeant}
 use Rattle.audit.proofs.Basics.{no, some_left, some_right}
@@ -43,11 +42,7 @@ use Rattle.audit.proofs.Grows.{book_grows}
 
 -- What was meant stays meant.
 stores_stay : (P : StoredAt → Type 0) (c : Call) (x : Result Reply Refusal) (l : List StoredAt) → SomeOf P l → SomeOf P (stores_noted c x l)
-stores_stay P (Store f a v) x l h = go (is_done x)
-  where
-    go : (t : Bool) → SomeOf P (cond t (l ++ record { code = f; address = a } ∷ []) l)
-    go true = some_left P l _ h
-    go false = h
+stores_stay P (Store f a v) x l h = cond_both (is_done x) _ _ (SomeOf P) (λ _. some_left P l _ h) (λ _. h)
 stores_stay P (ReadByte o) x l h = h
 stores_stay P (ReadWord o) x l h = h
 stores_stay P (WriteByte o v) x l h = h
@@ -76,21 +71,15 @@ abbrev Changes : MemoryMeaning → MemoryMeaning → ℕ → ℕ → List Place 
 Changes old new s b ps = (new.byte s b ≡ old.byte s b) ⊎ SomeOf (IsByte old s b) ps
 
 data_changes : (v : Data) (f a : ℕ) (m : MemoryMeaning) (s b : ℕ) → a < 16777216 → Changes m (data_written v f a m) s b (bytes_from (in_memory f) a (length (bytes_told v)))
-data_changes (ByteOf x) f a m s b h = go (m.writable f a)
-  where
-    go : (t : Bool) → Changes m (cond t (byte_set f a x m) m) s b (in_memory f a ∷ [])
-    go true = ⊎_elim (λ e. inl e) (λ e. inr (inl e)) (set_changes f a x m s b)
-    go false = inl refl
-data_changes (WordOf x y) f a m s b h = go (is_word_writable f a m)
-  where
-    low : low_address a ≡ a + 1
-    low = omega arith
-
-    go : (t : Bool) → Changes m (cond t (byte_set f (low_address a) y (byte_set f a x m)) m) s b (in_memory f a ∷ in_memory f (a + 1) ∷ [])
-    go false = inl refl
-    go true =
-        ⊎_elim (λ e. ⊎_elim (λ q. inl (e ∙ q)) (λ q. inr (inl q)) (set_changes f a x m s b))
-        (λ e. inr (inr (inl (e.0, sym low ∙ e.1)))) (set_changes f (low_address a) y (byte_set f a x m) s b)
+data_changes (ByteOf x) f a m s b h =
+    cond_both (m.writable f a) _ _ (λ w. Changes m w s b (in_memory f a ∷ []))
+    (λ _. ⊎_elim (λ e. inl e) (λ e. inr (inl e)) (set_changes f a x m s b)) (λ _. inl refl)
+data_changes (WordOf x y) f a m s b h =
+    let low : low_address a ≡ a + 1 = omega arith in
+    cond_both (is_word_writable f a m) _ _ (λ w. Changes m w s b (in_memory f a ∷ in_memory f (a + 1) ∷ []))
+    (λ _. ⊎_elim (λ e. ⊎_elim (λ q. inl (e ∙ q)) (λ q. inr (inl q)) (set_changes f a x m s b))
+    (λ e. inr (inr (inl (e.0, sym low ∙ e.1)))) (set_changes f (low_address a) y (byte_set f a x m) s b))
+    (λ _. inl refl)
 
 put_changes : (e : End) (v : Data) (f a : ℕ) (m : MemoryMeaning) (s b : ℕ) → a < 16777216
     → ((memory_put e v f a m).byte s b ≡ m.byte s b) ⊎ ((e ≡ InMemory) × SomeOf (IsByte m s b) (bytes_from (in_memory f) a (length (bytes_told v))))
@@ -215,11 +204,7 @@ abbrev MeantOnly : MemoryMeaning → Past → Past → Type 0
 MeantOnly m p q = (i b : ℕ) → (q.machine.memory.byte i b ≡ p.machine.memory.byte i b) ⊎ IsMeant m i b q
 
 settled_ever : (n : ℕ) (p : Past) → (settled_before (registers_of n p.machine) (p.books n)).ever ≡ (p.books n).ever
-settled_ever n p = go (is_active (registers_of n p.machine).status)
-  where
-    go : (t : Bool) → (cond t (p.books n) (record { counted = (p.books n).counted; start_dar = (p.books n).start_dar; entry_at = (p.books n).entry_at; named = (p.books n).named; delivered = (p.books n).delivered; gathered = nothing_gathered; ever = (p.books n).ever; log = (p.books n).log })).ever ≡ (p.books n).ever
-    go true = refl
-    go false = refl
+settled_ever n p = cond_both (is_active (registers_of n p.machine).status) _ _ (λ (y : Book). y.ever ≡ (p.books n).ever) (λ _. refl) (λ _. refl)
 
 pub step_bytes : (code : ℕ) (done : Bool) (m : MemoryMeaning) (p : Past) → p.machine.memory.space ≡ m.space → Kept p.machine p.books → MeantOnly m p (stepped code done p)
 step_bytes code done m p e g i b =
@@ -228,12 +213,8 @@ step_bytes code done m p e g i b =
     (step_left code done m p.machine (λ n. settled_before (registers_of n p.machine) (p.books n)) i b e (settled_kept p.machine p.books g))
 
 pub store_bytes : (f a v : ℕ) (m : MemoryMeaning) (p : Past) → p.machine.memory.space ≡ m.space → MeantOnly m p (noted (Store f a v) (store_called f a v p.machine) p)
-store_bytes f a v m p e i b = go (is_storable f a p.machine.memory)
-  where
-    go : (t : Bool)
-        → ((cond {A = Stored} t (record { memory = byte_set f a v p.machine.memory; answer = Ok tt }) (record { memory = p.machine.memory; answer = Err NoPlace })).memory.byte i b ≡ p.machine.memory.byte i b)
-        ⊎ (((n : ℕ) × (n < 4) × SomeOf (IsDestination m i b) ((noted (Store f a v) (store_called f a v p.machine) p).books n).ever)
-        ⊎ SomeOf (λ w. (m.space w.code ≡ i) × (w.address ≡ b)) (cond (is_done (done_replied (cond {A = Stored} t (record { memory = byte_set f a v p.machine.memory; answer = Ok tt }) (record { memory = p.machine.memory; answer = Err NoPlace })).answer)) (p.stores ++ record { code = f; address = a } ∷ []) p.stores))
-    go false = inl refl
-    go true =
-        ⊎_elim (λ z. inl z) (λ z. inr (inr (some_right _ p.stores _ (inl (sym (ap (λ (g : ℕ → ℕ). g f) e) ∙ z.0, z.1))))) (set_changes f a v p.machine.memory i b)
+store_bytes f a v m p e i b =
+    cond_both (is_storable f a p.machine.memory) _ _
+    (λ (y : Stored). (y.memory.byte i b ≡ p.machine.memory.byte i b) ⊎ IsMeant m i b (noted (Store f a v) (record { machine = with_memory y.memory p.machine; reply = done_replied y.answer }) p))
+    (λ _. ⊎_elim (λ z. inl z) (λ z. inr (inr (some_right _ p.stores _ (inl (sym (ap (λ (g : ℕ → ℕ). g f) e) ∙ z.0, z.1))))) (set_changes f a v p.machine.memory i b))
+    (λ _. inl refl)

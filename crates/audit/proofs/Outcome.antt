@@ -1,5 +1,5 @@
 -- What a bus step of a chosen channel comes to: nothing, an error, a cycle of an operand, or a word of an entry.
-use Rattle.std.proofs.Common.{◌≡◌, ℕ, ◌+◌, ◌*◌, Bool, true, false, cond, ◌&&◌, ◌||◌, ◌⊎◌, Some, None, Option, sym, refl, subst, inl, inr}
+use Rattle.std.proofs.Common.{◌≡◌, ℕ, ◌+◌, ◌*◌, Bool, true, false, cond, ◌&&◌, ◌||◌, ◌⊎◌, Some, None, Ok, Option, sym, refl, subst, inl, inr}
 use Rattle.registers.specs.declared.fault.Fault.{Fault}
 use Rattle.registers.specs.declared.fault.Fault.TheVariants.{BaseAddress, MemoryBus, DeviceBus, BaseBus}
 use Rattle.bus.specs.Memory.{is_word_readable, byte_at, low_address}
@@ -18,7 +18,7 @@ use Rattle.cycle.specs.declared.record.Data.TheVariants.{Word as WordOf}
 use Rattle.cycle.specs.declared.record.Kind.TheVariants.{Entry}
 use Rattle.cycle.specs.declared.record.Record.{Record}
 use Rattle.cycle.specs.declared.record.Record.TheVariants.{Cycle}
-use Rattle.cycle.specs.declared.serve.Outcome.TheVariants.{Waiting as StillWaiting, Failed as FailedBy, Made}
+use Rattle.cycle.specs.declared.serve.Hindrance.TheVariants.{Waiting as StillWaiting, Failed as FailedBy}
 use Rattle.cycle.specs.Plan.{plan}
 use Rattle.cycle.specs.Carry.{slot_code, slot_address, is_device_cycle}
 use Rattle.cycle.specs.Serve.{Served, not_served, kind_by, side_fault, slot_carried, slot_data, is_slot_ready, is_slot_answered, slot_at, next_served, entry_address, phase_served, next_fault, phase_fault, is_entry_misplaced_by}
@@ -130,7 +130,7 @@ entry_made s n ws = record {
   channel = entry_word_taken (entry_high s n ws * 256 + entry_low s n ws) ws (channel_at n s.dmac);
   memory = s.memory;
   bank = s.bank;
-  outcome = Made (entry_record s n ws);
+  outcome = Ok (entry_record s n ws);
 }
 
 pub record Fetched (s : Machine) (n : ℕ) (o : Stepped) : Type 0 where

@@ -1,5 +1,5 @@
 -- A log of calls, played from a new controller.
-use Rattle.std.specs.Prelude.{◌≡◌, ℕ, ◌-◌, List, [], ◌∷◌, length}
+use Rattle.std.specs.Prelude.{◌≡◌, ℕ, ◌-◌, List, [], ◌∷◌, map, length}
 use Rattle.bus.specs.Memory.{MemoryMeaning}
 use Rattle.devices.specs.Bank.{BankMeaning}
 use Rattle.cycle.specs.declared.record.Record.{Record}
@@ -11,12 +11,10 @@ use Rattle.audit.specs.Tie.{Lawful}
 
 -- The calls of a log, and the events that it tells of.
 abbrev pub calls_of : List Entry → List Call
-calls_of [] = []
-calls_of (e ∷ es) = e.call ∷ calls_of es
+calls_of es = map (λ (e : Entry). e.call) es
 
 abbrev pub events_of : List Entry → List Event
-events_of [] = []
-events_of (e ∷ es) = record { call = e.call; room = e.room } ∷ events_of es
+events_of es = map (λ (e : Entry). record { call = e.call; room = e.room }) es
 
 -- What a log of calls comes to: the machine, the trace, and the log with the free places before each call and its reply.
 pub record Played : Type 0 where

@@ -4,7 +4,7 @@ use dmac::run::Ran;
 
 // A call of the controller: a register byte or word read (offset) or written (offset, value), a request line set
 // (channel, level), a bus step (exception code, DONE), a byte stored for the processor (function code, address, value),
-// or a run of so many steps.
+// or a run of so many steps. (A store's place stays two numbers, as in a script and in specs/Examples.antt.)
 #[derive(Clone, Copy, PartialEq, Eq, Debug)]
 pub enum Call {
     ReadByte(u8),
@@ -19,7 +19,7 @@ pub enum Call {
 
 // What a call replies that is not refused: a register's byte or word, that it was done, what a step answered, or what a
 // run told.
-#[derive(Clone, Copy)]
+#[derive(Clone, Copy, PartialEq, Eq, Debug)]
 pub enum Reply {
     Byte(u8),
     Word(u16),

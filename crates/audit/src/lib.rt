@@ -1,8 +1,8 @@
 // Histories of calls, and the law that holds over every one of them.
 //
 //     let mut controller = Dmac::new();
-//     perform(&mut controller, &mut memory, &mut devices, &mut trace, Call::WriteByte(0x07, 0x80));
-//     perform(&mut controller, &mut memory, &mut devices, &mut trace, Call::Run(100));
+//     perform(&mut controller, &mut around, &mut trace, Call::WriteByte(0x07, 0x80));
+//     perform(&mut controller, &mut around, &mut trace, Call::Run(100));
 //
 // `perform` makes a call that is given as a value, and promises beside what the call does that every history which led
 // here goes on lawfully: what was named is delivered, in order and byte for byte, and nothing else is touched. `play`

@@ -2,20 +2,21 @@
 ghost use Rattle.std.specs.Prelude.{◌≡◌};
 ghost use Rattle.queue.specs.Queue.{held, capacity_of};
 ghost use Rattle.dmac.specs.Controller.{new_controller};
-ghost use Rattle.dmac.specs.Step.{machine_of};
+ghost use Rattle.dmac.specs.Step.{machine_at};
 ghost use Rattle.audit.specs.Played.{calls_of, events_of, played, Lawfully};
 
 use crate::call::{Call, Reply};
 use crate::perform::perform;
 use bus::memory::Memory;
 use cycle::record::Record;
+use cycle::surroundings::Surroundings;
 use devices::bank::DeviceBank;
 use dmac::controller::Dmac;
 use queue::Queue;
 use refusal::kinds::Refusal;
 
 // A call, how many places were free in the trace that it was given, and what it replied.
-#[derive(Clone, Copy)]
+#[derive(Clone, Copy, PartialEq, Eq, Debug)]
 pub struct Entry {
     pub call: Call,
     pub room: usize,
@@ -26,17 +27,16 @@ pub struct Entry {
 // into each entry. The calls do what they do (`played`), and the history of them is lawful (`lawful`).
 pub fn play<M: Memory, D: DeviceBank>(
     log: &mut [Entry],
-    memory: &mut M,
-    devices: &mut D,
+    around: &mut Surroundings<M, D>,
     trace: &mut Queue<'_, Record>,
 ) -> Dmac
-    ensures played { record { machine = machine_of result (M.Memory.means memory.new) (D.DeviceBank.bank devices.new); trace = held trace.new; entries = log.new } ≡ played (calls_of log.old) (capacity_of trace.old) (machine_of new_controller (M.Memory.means memory.old) (D.DeviceBank.bank devices.old)) (held trace.old) }
-    ensures lawful { Lawfully (M.Memory.means memory.old) (D.DeviceBank.bank devices.old) (events_of log.new) (machine_of result (M.Memory.means memory.new) (D.DeviceBank.bank devices.new)) }
+    ensures played { record { machine = machine_at M.Memory.means D.DeviceBank.bank result around.new; trace = held trace.new; entries = log.new } ≡ played (calls_of log.old) (capacity_of trace.old) (machine_at M.Memory.means D.DeviceBank.bank new_controller around.old) (held trace.old) }
+    ensures lawful { Lawfully (M.Memory.means around.old.memory) (D.DeviceBank.bank around.old.devices) (events_of log.new) (machine_at M.Memory.means D.DeviceBank.bank result around.new) }
 {
     let mut dmac = Dmac::new();
     for entry in log.iter_mut() {
         entry.room = trace.capacity() - trace.len();
-        entry.reply = perform(&mut dmac, memory, devices, trace, entry.call);
+        entry.reply = perform(&mut dmac, around, trace, entry.call);
     }
     dmac
 }

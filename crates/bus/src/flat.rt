@@ -2,7 +2,7 @@
 ghost use Rattle.std.specs.Prelude.{◌≡◌, ◌<◌, ◌≤◌, length, MatchResult};
 ghost use Rattle.bus.specs.Memory.{flat};
 
-use crate::memory::Memory;
+use crate::memory::{Memory, Place};
 
 // The most bytes that 24 address bits reach.
 pub const PLACES: usize = 0x1000000;
@@ -24,35 +24,32 @@ impl<'a> Flat<'a> {
         Ok(Flat { bytes })
     }
 
-    fn holds(&self, code: u8, address: u32) -> bool
-        ensures { result ≡ (flat self.now.bytes.now).readable code address }
+    fn holds(&self, place: Place) -> bool
+        ensures { result ≡ (flat self.now.bytes.now).readable place.code place.address }
     {
-        code < 8 && (address as usize) < self.bytes.len()
+        place.code < 8 && (place.address as usize) < self.bytes.len()
     }
 }
 
 impl<'a> Memory for Flat<'a> {
     ghost means = { λ s. flat s.bytes.now };
 
-    fn is_readable(&self, code: u8, address: u32) -> bool {
-        self.holds(code, address)
+    fn is_readable(&self, place: Place) -> bool {
+        self.holds(place)
     }
 
-    fn is_writable(&self, code: u8, address: u32) -> bool {
-        self.holds(code, address)
+    fn is_writable(&self, place: Place) -> bool {
+        self.holds(place)
     }
 
-    fn read(&self, code: u8, address: u32) -> Option<u8> {
-        if self.holds(code, address) {
-            Some(self.bytes[address as usize])
-        } else {
-            None
-        }
+    fn read(&self, place: Place) -> Option<u8> {
+        self.holds(place)
+            .then(|| self.bytes[place.address as usize])
     }
 
-    fn write(&mut self, code: u8, address: u32, byte: u8) {
-        if self.holds(code, address) {
-            self.bytes[address as usize] = byte;
+    fn write(&mut self, place: Place, byte: u8) {
+        if self.holds(place) {
+            self.bytes[place.address as usize] = byte;
         }
     }
 }

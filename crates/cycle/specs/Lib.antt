@@ -1,4 +1,5 @@
 pub mod Plan
 pub mod Held
 pub mod Carry
+pub mod Record
 pub mod Serve

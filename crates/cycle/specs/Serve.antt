@@ -1,5 +1,5 @@
 -- One cycle of a channel: an operand's or an entry's.
-use Rattle.std.specs.Prelude.{◌≡◌, ℕ, ◌+◌, ◌*◌, Bool, false, cond, ◌&&◌, ◌||◌, List, length, Some, None, Option, ◌==◌, nat_lt, slice_index_or}
+use Rattle.std.specs.Prelude.{◌≡◌, ℕ, ◌+◌, ◌*◌, Bool, false, cond, ◌&&◌, ◌||◌, List, length, Some, None, Option, Ok, Err, Result, ◌==◌, nat_lt, slice_index_or}
 use Rattle.registers.specs.Bits.{odd}
 use Rattle.registers.specs.Config.{is_inward}
 use Rattle.registers.specs.declared.fault.Fault.{Fault}
@@ -24,25 +24,24 @@ pub use Rattle.cycle.specs.declared.record.Kind.{Kind}
 pub use Rattle.cycle.specs.declared.record.Kind.TheVariants.{Read, Write, Entry}
 pub use Rattle.cycle.specs.declared.record.Record.{Record}
 pub use Rattle.cycle.specs.declared.record.Record.TheVariants.{Cycle, Error}
-pub use Rattle.cycle.specs.declared.serve.Outcome.{Outcome}
-pub use Rattle.cycle.specs.declared.serve.Outcome.TheVariants.{Waiting, Failed, Made}
+pub use Rattle.cycle.specs.declared.serve.Hindrance.{Hindrance}
+pub use Rattle.cycle.specs.declared.serve.Hindrance.TheVariants.{Waiting, Failed}
 
 -- What serving a channel leaves, and how it went.
 pub record Served : Type 0 where
   pub channel : Channel
   pub memory : MemoryMeaning
   pub bank : BankMeaning
-  pub outcome : Outcome
+  pub outcome : Result Record Hindrance
 
 -- Nothing is carried out: the device is not ready, or a place is not answered.
-abbrev pub not_served : Outcome → Channel → MemoryMeaning → BankMeaning → Served
-not_served o c m b = record { channel = c; memory = m; bank = b; outcome = o }
+abbrev pub not_served : Hindrance → Channel → MemoryMeaning → BankMeaning → Served
+not_served w c m b = record { channel = c; memory = m; bank = b; outcome = Err w }
 
 -- What holds of a channel, a memory and a bank after an outcome: unless a cycle was made, each is as it was.
-abbrev pub Kept : Outcome → Channel → MemoryMeaning → BankMeaning → Channel → MemoryMeaning → BankMeaning → Type 0
-Kept Waiting c m b c' m' b' = (c' ≡ c) × (m' ≡ m) × (b' ≡ b)
-Kept (Failed f) c m b c' m' b' = (c' ≡ c) × (m' ≡ m) × (b' ≡ b)
-Kept (Made r) c m b c' m' b' = Unit {0}
+abbrev pub Kept : Result Record Hindrance → Channel → MemoryMeaning → BankMeaning → Channel → MemoryMeaning → BankMeaning → Type 0
+Kept (Ok r) c m b c' m' b' = Unit {0}
+Kept (Err w) c m b c' m' b' = (c' ≡ c) × (m' ≡ m) × (b' ≡ b)
 
 -- A source cycle reads, a destination cycle writes; one that passes through reads or writes memory.
 abbrev pub kind_by : Way → Config → Kind
@@ -73,7 +72,7 @@ slot_carried q last k h done v n c m b = record {
   channel = operand_moved last k (held_after q.way v q.word h) done c;
   memory = memory_put (destination_end q c.registers.config) v (slot_code q c) (slot_address q c) m;
   bank = bank_put (destination_end q c.registers.config) v n (bank_got (source_end q c.registers.config) n q.word b);
-  outcome = Made (Cycle n (kind_by q.way c.registers.config) (slot_code q c) (slot_address q c) v);
+  outcome = Ok (Cycle n (kind_by q.way c.registers.config) (slot_code q c) (slot_address q c) v);
 }
 
 abbrev pub is_slot_ready : Slot → ℕ → Config → BankMeaning → Bool
@@ -126,7 +125,7 @@ entry_served ws n c m b =
       channel = entry_word_taken (high * 256 + low) ws c;
       memory = m;
       bank = b;
-      outcome = Made (Cycle n Entry f a (WordOf high low));
+      outcome = Ok (Cycle n Entry f a (WordOf high low));
     })
     (not_served (Failed BaseBus) c m b)
 

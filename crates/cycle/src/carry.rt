@@ -3,18 +3,20 @@ ghost use Rattle.std.specs.Prelude.{◌≡◌, if◌then◌else◌};
 ghost use Rattle.bus.specs.Memory.{byte_read, word_read};
 ghost use Rattle.devices.specs.Bank.{give_tried, take_tried, byte_handed, word_handed};
 ghost use Rattle.cycle.specs.Held.{data_bytes, byte_data, word_data};
-ghost use Rattle.cycle.specs.Carry.{sent, side_end, source_end, destination_end, slot_code, slot_address, count_of, is_source_ready, is_destination_ready, is_source_answered, is_destination_answered, data_got, bank_got, data_written, memory_put, bank_put, held_after};
+ghost use Rattle.cycle.specs.Carry.{sent, side_end, source_end, destination_end, is_device_cycle, slot_code, slot_address, count_of, data_got, bank_got, data_written, memory_put, bank_put, held_after};
+ghost use Rattle.cycle.specs.Serve.{is_slot_ready, is_slot_answered};
 
 use crate::held::{first_of, rest_of, with_more};
 use crate::plan::{Side, Slot, Way};
 use crate::record::Data;
-use bus::memory::Memory;
+use crate::surroundings::Surroundings;
+use bus::memory::{Memory, Place};
 use channel::state::{Channel, Held};
 use devices::bank::DeviceBank;
 use registers::groups::Config;
 
 // Where the bytes of a cycle come from or go to: memory, the channel's device, or what the channel holds.
-#[derive(Clone, Copy)]
+#[derive(Clone, Copy, PartialEq, Eq, Debug)]
 pub enum End {
     InMemory,
     InDevice,
@@ -32,65 +34,76 @@ fn side_end(side: Side, config: Config) -> End
     ensures { result ≡ side_end side config }
 {
     match side {
-        Side::Memory => End::InMemory,
-        Side::Device => {
-            if config.is_device_memory() {
-                End::InMemory
-            } else {
-                End::InDevice
-            }
-        }
+        Side::Device if !config.is_device_memory() => End::InDevice,
+        Side::Memory | Side::Device => End::InMemory,
     }
 }
 
 impl Slot {
-    pub(crate) fn source(self, config: Config) -> End
-        ensures { result ≡ source_end self config }
+    // Where the bytes come from, and where they go.
+    pub(crate) fn ends(self, config: Config) -> (End, End)
+        ensures { result ≡ (source_end self config, destination_end self config) }
     {
         match self.way {
-            Way::Source => side_end(self.side, config),
-            Way::Destination => End::InChannel,
-            Way::Through => {
-                if config.is_inward() {
-                    End::InDevice
-                } else {
-                    End::InMemory
-                }
-            }
+            Way::Source => (side_end(self.side, config), End::InChannel),
+            Way::Destination => (End::InChannel, side_end(self.side, config)),
+            Way::Through if config.is_inward() => (End::InDevice, End::InMemory),
+            Way::Through => (End::InMemory, End::InDevice),
         }
     }
 
-    pub(crate) fn destination(self, config: Config) -> End
-        ensures { result ≡ destination_end self config }
+    // A cycle of the channel's device, in which DONE counts.
+    pub(crate) fn is_device_cycle(self, config: Config) -> bool
+        ensures { result ≡ is_device_cycle self config }
     {
-        match self.way {
-            Way::Source => End::InChannel,
-            Way::Destination => side_end(self.side, config),
-            Way::Through => {
-                if config.is_inward() {
-                    End::InMemory
-                } else {
-                    End::InDevice
-                }
-            }
-        }
+        let (from, to) = self.ends(config);
+        from == End::InDevice || to == End::InDevice
     }
 
-    pub(crate) fn code(self, channel: &Channel) -> u8
-        ensures { result ≡ slot_code self channel.now }
+    // The place that is sent.
+    pub(crate) fn place(self, channel: &Channel) -> Place
+        ensures { result ≡ record { code = slot_code self channel.now; address = slot_address self channel.now } }
     {
+        let counters = channel.registers.counters;
         match self.side {
-            Side::Memory => channel.registers.counters.mfc,
-            Side::Device => channel.registers.config.dfc,
+            Side::Memory => Place {
+                code: counters.mfc,
+                address: sent(counters.mar, self.offset),
+            },
+            Side::Device => Place {
+                code: channel.registers.config.dfc,
+                address: sent(counters.dar, self.offset),
+            },
         }
     }
 
-    pub(crate) fn address(self, channel: &Channel) -> u32
-        ensures { result ≡ slot_address self channel.now }
+    fn count(self) -> usize
+        ensures { result ≡ count_of self.word }
     {
-        match self.side {
-            Side::Memory => sent(channel.registers.counters.mar, self.offset),
-            Side::Device => sent(channel.registers.counters.dar, self.offset),
+        if self.word { 2 } else { 1 }
+    }
+
+    // Whether the device is ready, if bytes come from it or go to it.
+    pub(crate) fn is_ready<D: DeviceBank>(self, number: u8, config: Config, devices: &D) -> bool
+        ensures { result ≡ is_slot_ready self number config (D.DeviceBank.bank devices.now) }
+    {
+        let (from, to) = self.ends(config);
+        (from != End::InDevice || devices.can_give(number, self.count()))
+            && (to != End::InDevice || devices.can_take(number, self.count()))
+    }
+
+    // Whether the place is answered, if bytes come from memory or go to it.
+    pub(crate) fn is_answered<M: Memory>(self, channel: &Channel, memory: &M) -> bool
+        ensures { result ≡ is_slot_answered self channel.now (M.Memory.means memory.now) }
+    {
+        let (from, to) = self.ends(channel.registers.config);
+        let place = self.place(channel);
+        if self.word {
+            (from != End::InMemory || memory.is_word_readable(place))
+                && (to != End::InMemory || memory.is_word_writable(place))
+        } else {
+            (from != End::InMemory || memory.is_readable(place))
+                && (to != End::InMemory || memory.is_writable(place))
         }
     }
 
@@ -106,102 +119,28 @@ impl Slot {
     }
 }
 
-fn count_of(word: bool) -> usize
-    ensures { result ≡ count_of word }
-{
-    if word { 2 } else { 1 }
-}
+impl Data {
+    fn of_byte(got: Option<u8>) -> Data
+        ensures { result ≡ byte_data got }
+    {
+        Data::Byte(got.unwrap_or(0))
+    }
 
-pub(crate) fn is_source_ready<D: DeviceBank>(end: End, devices: &D, channel: u8, word: bool) -> bool
-    ensures { result ≡ is_source_ready end channel word (D.DeviceBank.bank devices.now) }
-{
-    match end {
-        End::InDevice => devices.can_give(channel, count_of(word)),
-        End::InMemory | End::InChannel => true,
+    fn of_word(got: Option<(u8, u8)>) -> Data
+        ensures { result ≡ word_data got }
+    {
+        let (high, low) = got.unwrap_or((0, 0));
+        Data::Word(high, low)
     }
 }
 
-pub(crate) fn is_destination_ready<D: DeviceBank>(
-    end: End,
-    devices: &D,
-    channel: u8,
-    word: bool,
-) -> bool
-    ensures { result ≡ is_destination_ready end channel word (D.DeviceBank.bank devices.now) }
-{
-    match end {
-        End::InDevice => devices.can_take(channel, count_of(word)),
-        End::InMemory | End::InChannel => true,
-    }
-}
-
-pub(crate) fn is_source_answered<M: Memory>(
-    end: End,
-    memory: &M,
-    code: u8,
-    address: u32,
-    word: bool,
-) -> bool
-    ensures { result ≡ is_source_answered end code address word (M.Memory.means memory.now) }
-{
-    match end {
-        End::InMemory => {
-            if word {
-                memory.is_word_readable(code, address)
-            } else {
-                memory.is_readable(code, address)
-            }
-        }
-        End::InDevice | End::InChannel => true,
-    }
-}
-
-pub(crate) fn is_destination_answered<M: Memory>(
-    end: End,
-    memory: &M,
-    code: u8,
-    address: u32,
-    word: bool,
-) -> bool
-    ensures { result ≡ is_destination_answered end code address word (M.Memory.means memory.now) }
-{
-    match end {
-        End::InMemory => {
-            if word {
-                memory.is_word_writable(code, address)
-            } else {
-                memory.is_writable(code, address)
-            }
-        }
-        End::InDevice | End::InChannel => true,
-    }
-}
-
-fn byte_data(got: Option<u8>) -> Data
-    ensures { result ≡ byte_data got }
-{
-    match got {
-        Some(byte) => Data::Byte(byte),
-        None => Data::Byte(0),
-    }
-}
-
-fn word_data(got: Option<(u8, u8)>) -> Data
-    ensures { result ≡ word_data got }
-{
-    match got {
-        Some((high, low)) => Data::Word(high, low),
-        None => Data::Word(0, 0),
-    }
-}
-
-fn read_memory<M: Memory>(memory: &M, code: u8, address: u32, word: bool) -> Data
-    ensures { result ≡ (if word then word_data (word_read code address (M.Memory.means memory.now)) else byte_data (byte_read code address (M.Memory.means memory.now))) }
+fn read_memory<M: Memory>(memory: &M, place: Place, word: bool) -> Data
+    ensures { result ≡ (if word then word_data (word_read place.code place.address (M.Memory.means memory.now)) else byte_data (byte_read place.code place.address (M.Memory.means memory.now))) }
 {
     if word {
-        word_data(memory.read_word(code, address))
+        Data::of_word(memory.read_word(place))
     } else {
-        byte_data(memory.read(code, address))
+        Data::of_byte(memory.read(place))
     }
 }
 
@@ -210,38 +149,18 @@ fn read_device<D: DeviceBank>(devices: &mut D, channel: u8, word: bool) -> Data
     ensures after { D.DeviceBank.bank devices.new ≡ give_tried channel (count_of word) (D.DeviceBank.bank devices.old) }
 {
     if word {
-        word_data(devices.give_word(channel))
+        Data::of_word(devices.give_word(channel))
     } else {
-        byte_data(devices.give(channel))
+        Data::of_byte(devices.give(channel))
     }
 }
 
-// The data of a cycle, from its source.
-pub(crate) fn get<M: Memory, D: DeviceBank>(
-    slot: Slot,
-    from: End,
-    channel: &Channel,
-    number: u8,
-    held: Held,
-    memory: &M,
-    devices: &mut D,
-) -> Data
-    ensures value { result ≡ data_got from number (slot_code slot channel.now) (slot_address slot channel.now) slot.word held (M.Memory.means memory.now) (D.DeviceBank.bank devices.old) }
-    ensures after { D.DeviceBank.bank devices.new ≡ bank_got from number slot.word (D.DeviceBank.bank devices.old) }
-{
-    match from {
-        End::InMemory => read_memory(memory, slot.code(channel), slot.address(channel), slot.word),
-        End::InDevice => read_device(devices, number, slot.word),
-        End::InChannel => first_of(held, slot.word),
-    }
-}
-
-fn write_memory<M: Memory>(memory: &mut M, code: u8, address: u32, bytes: Data)
-    ensures { M.Memory.means memory.new ≡ data_written bytes code address (M.Memory.means memory.old) }
+fn write_memory<M: Memory>(memory: &mut M, place: Place, bytes: Data)
+    ensures { M.Memory.means memory.new ≡ data_written bytes place.code place.address (M.Memory.means memory.old) }
 {
     match bytes {
-        Data::Byte(byte) => memory.write(code, address, byte),
-        Data::Word(high, low) => memory.write_word(code, address, high, low),
+        Data::Byte(byte) => memory.write(place, byte),
+        Data::Word(high, low) => memory.write_word(place, high, low),
     }
 }
 
@@ -254,22 +173,36 @@ fn write_device<D: DeviceBank>(devices: &mut D, channel: u8, bytes: Data)
     }
 }
 
-// The data of a cycle, to its destination.
-pub(crate) fn put<M: Memory, D: DeviceBank>(
-    slot: Slot,
-    to: End,
-    channel: &Channel,
-    number: u8,
-    bytes: Data,
-    memory: &mut M,
-    devices: &mut D,
-)
-    ensures memory { M.Memory.means memory.new ≡ memory_put to bytes (slot_code slot channel.now) (slot_address slot channel.now) (M.Memory.means memory.old) }
-    ensures bank { D.DeviceBank.bank devices.new ≡ bank_put to bytes number (D.DeviceBank.bank devices.old) }
-{
-    match to {
-        End::InMemory => write_memory(memory, slot.code(channel), slot.address(channel), bytes),
-        End::InDevice => write_device(devices, number, bytes),
-        End::InChannel => {}
+impl<M: Memory, D: DeviceBank> Surroundings<M, D> {
+    // The data of a cycle of channel `number`, from their source.
+    pub(crate) fn get(
+        &mut self,
+        from: End,
+        number: u8,
+        place: Place,
+        word: bool,
+        held: Held,
+    ) -> Data
+        ensures value { result ≡ data_got from number place.code place.address word held (M.Memory.means self.old.memory) (D.DeviceBank.bank self.old.devices) }
+        ensures memory { M.Memory.means self.new.memory ≡ M.Memory.means self.old.memory }
+        ensures bank { D.DeviceBank.bank self.new.devices ≡ bank_got from number word (D.DeviceBank.bank self.old.devices) }
+    {
+        match from {
+            End::InMemory => read_memory(&self.memory, place, word),
+            End::InDevice => read_device(&mut self.devices, number, word),
+            End::InChannel => first_of(held, word),
+        }
+    }
+
+    // The data of a cycle of channel `number`, to their destination.
+    pub(crate) fn put(&mut self, to: End, number: u8, place: Place, bytes: Data)
+        ensures memory { M.Memory.means self.new.memory ≡ memory_put to bytes place.code place.address (M.Memory.means self.old.memory) }
+        ensures bank { D.DeviceBank.bank self.new.devices ≡ bank_put to bytes number (D.DeviceBank.bank self.old.devices) }
+    {
+        match to {
+            End::InMemory => write_memory(&mut self.memory, place, bytes),
+            End::InDevice => write_device(&mut self.devices, number, bytes),
+            End::InChannel => {}
+        }
     }
 }

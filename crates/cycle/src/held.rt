@@ -9,13 +9,15 @@ use channel::state::Held;
 pub(crate) fn first_of(held: Held, word: bool) -> Data
     ensures { result ≡ held_first word held }
 {
-    match (word, held) {
-        (false, Held::NoByte) => Data::Byte(0),
-        (false, Held::OneByte(a)) => Data::Byte(a),
-        (false, Held::TwoBytes(a, _)) => Data::Byte(a),
-        (true, Held::NoByte) => Data::Word(0, 0),
-        (true, Held::OneByte(a)) => Data::Word(a, 0),
-        (true, Held::TwoBytes(a, b)) => Data::Word(a, b),
+    let (first, second) = match held {
+        Held::NoByte => (0, 0),
+        Held::OneByte(a) => (a, 0),
+        Held::TwoBytes(a, b) => (a, b),
+    };
+    if word {
+        Data::Word(first, second)
+    } else {
+        Data::Byte(first)
     }
 }
 
@@ -33,15 +35,10 @@ pub(crate) fn rest_of(held: Held, word: bool) -> Held
 pub(crate) fn with_more(held: Held, bytes: Data) -> Held
     ensures { result ≡ held_more bytes held }
 {
-    match held {
-        Held::NoByte => match bytes {
-            Data::Byte(a) => Held::OneByte(a),
-            Data::Word(a, b) => Held::TwoBytes(a, b),
-        },
-        Held::OneByte(x) => match bytes {
-            Data::Byte(a) => Held::TwoBytes(x, a),
-            Data::Word(a, _) => Held::TwoBytes(x, a),
-        },
-        Held::TwoBytes(x, y) => Held::TwoBytes(x, y),
+    match (held, bytes) {
+        (Held::NoByte, Data::Byte(a)) => Held::OneByte(a),
+        (Held::NoByte, Data::Word(a, b)) => Held::TwoBytes(a, b),
+        (Held::OneByte(x), Data::Byte(a) | Data::Word(a, _)) => Held::TwoBytes(x, a),
+        (Held::TwoBytes(..), _) => held,
     }
 }

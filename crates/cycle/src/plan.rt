@@ -6,7 +6,7 @@ use registers::groups::{Config, Size};
 
 // What a cycle does with the operand's bytes: it reads them from their source, writes them to their destination, or
 // passes them through from one to the other.
-#[derive(Clone, Copy)]
+#[derive(Clone, Copy, PartialEq, Eq, Debug)]
 pub enum Way {
     Source,
     Destination,
@@ -14,7 +14,7 @@ pub enum Way {
 }
 
 // The side of the operand that a cycle addresses.
-#[derive(Clone, Copy)]
+#[derive(Clone, Copy, PartialEq, Eq, Debug)]
 pub enum Side {
     Memory,
     Device,
@@ -22,7 +22,7 @@ pub enum Side {
 
 // One cycle of an operand: what it does, on which side, how far behind the side's address register, and whether it
 // moves a word or a byte.
-#[derive(Clone, Copy)]
+#[derive(Clone, Copy, PartialEq, Eq, Debug)]
 pub struct Slot {
     pub way: Way,
     pub side: Side,
@@ -30,153 +30,17 @@ pub struct Slot {
     pub word: bool,
 }
 
-// The cycles that plans are made of: a byte, or a word, at the side's address register or so many bytes further.
-const FROM_MEMORY: Slot = Slot {
-    way: Way::Source,
-    side: Side::Memory,
-    offset: 0,
-    word: false,
-};
-
-const FROM_MEMORY_WORD: Slot = Slot {
-    way: Way::Source,
-    side: Side::Memory,
-    offset: 0,
-    word: true,
-};
-
-const FROM_MEMORY_WORD_2: Slot = Slot {
-    way: Way::Source,
-    side: Side::Memory,
-    offset: 2,
-    word: true,
-};
-
-const FROM_DEVICE: Slot = Slot {
-    way: Way::Source,
-    side: Side::Device,
-    offset: 0,
-    word: false,
-};
-
-const FROM_DEVICE_2: Slot = Slot {
-    way: Way::Source,
-    side: Side::Device,
-    offset: 2,
-    word: false,
-};
-
-const FROM_DEVICE_4: Slot = Slot {
-    way: Way::Source,
-    side: Side::Device,
-    offset: 4,
-    word: false,
-};
-
-const FROM_DEVICE_6: Slot = Slot {
-    way: Way::Source,
-    side: Side::Device,
-    offset: 6,
-    word: false,
-};
-
-const FROM_DEVICE_WORD: Slot = Slot {
-    way: Way::Source,
-    side: Side::Device,
-    offset: 0,
-    word: true,
-};
-
-const FROM_DEVICE_WORD_2: Slot = Slot {
-    way: Way::Source,
-    side: Side::Device,
-    offset: 2,
-    word: true,
-};
-
-const TO_MEMORY: Slot = Slot {
-    way: Way::Destination,
-    side: Side::Memory,
-    offset: 0,
-    word: false,
-};
-
-const TO_MEMORY_WORD: Slot = Slot {
-    way: Way::Destination,
-    side: Side::Memory,
-    offset: 0,
-    word: true,
-};
-
-const TO_MEMORY_WORD_2: Slot = Slot {
-    way: Way::Destination,
-    side: Side::Memory,
-    offset: 2,
-    word: true,
-};
-
-const TO_DEVICE: Slot = Slot {
-    way: Way::Destination,
-    side: Side::Device,
-    offset: 0,
-    word: false,
-};
-
-const TO_DEVICE_2: Slot = Slot {
-    way: Way::Destination,
-    side: Side::Device,
-    offset: 2,
-    word: false,
-};
-
-const TO_DEVICE_4: Slot = Slot {
-    way: Way::Destination,
-    side: Side::Device,
-    offset: 4,
-    word: false,
-};
-
-const TO_DEVICE_6: Slot = Slot {
-    way: Way::Destination,
-    side: Side::Device,
-    offset: 6,
-    word: false,
-};
-
-const TO_DEVICE_WORD: Slot = Slot {
-    way: Way::Destination,
-    side: Side::Device,
-    offset: 0,
-    word: true,
-};
-
-const TO_DEVICE_WORD_2: Slot = Slot {
-    way: Way::Destination,
-    side: Side::Device,
-    offset: 2,
-    word: true,
-};
-
-const THROUGH_MEMORY: Slot = Slot {
-    way: Way::Through,
-    side: Side::Memory,
-    offset: 0,
-    word: false,
-};
-
-const THROUGH_MEMORY_WORD: Slot = Slot {
-    way: Way::Through,
-    side: Side::Memory,
-    offset: 0,
-    word: true,
-};
-
-const THROUGH_MEMORY_WORD_2: Slot = Slot {
-    way: Way::Through,
-    side: Side::Memory,
-    offset: 2,
-    word: true,
-};
+// A cycle, written as specs/Plan.antt writes it.
+macro_rules! slot {
+    ($way:ident, $side:ident, $offset:literal, $word:literal) => {
+        Slot {
+            way: Way::$way,
+            side: Side::$side,
+            offset: $offset,
+            word: $word,
+        }
+    };
+}
 
 // A 16-bit port: one cycle on each side for each portion.
 fn plan_wide(inward: bool, size: Size) -> &'static [Slot]
@@ -184,21 +48,33 @@ fn plan_wide(inward: bool, size: Size) -> &'static [Slot]
     ensures few { length result.now ≤ 6 }
 {
     match (inward, size) {
-        (false, Size::Byte) => &[FROM_MEMORY, TO_DEVICE],
-        (false, Size::Word) => &[FROM_MEMORY_WORD, TO_DEVICE_WORD],
-        (false, Size::Long) => &[
-            FROM_MEMORY_WORD,
-            TO_DEVICE_WORD,
-            FROM_MEMORY_WORD_2,
-            TO_DEVICE_WORD_2,
+        (false, Size::Byte) => &[
+            slot!(Source, Memory, 0, false),
+            slot!(Destination, Device, 0, false),
         ],
-        (true, Size::Byte) => &[FROM_DEVICE, TO_MEMORY],
-        (true, Size::Word) => &[FROM_DEVICE_WORD, TO_MEMORY_WORD],
+        (false, Size::Word) => &[
+            slot!(Source, Memory, 0, true),
+            slot!(Destination, Device, 0, true),
+        ],
+        (false, Size::Long) => &[
+            slot!(Source, Memory, 0, true),
+            slot!(Destination, Device, 0, true),
+            slot!(Source, Memory, 2, true),
+            slot!(Destination, Device, 2, true),
+        ],
+        (true, Size::Byte) => &[
+            slot!(Source, Device, 0, false),
+            slot!(Destination, Memory, 0, false),
+        ],
+        (true, Size::Word) => &[
+            slot!(Source, Device, 0, true),
+            slot!(Destination, Memory, 0, true),
+        ],
         (true, Size::Long) => &[
-            FROM_DEVICE_WORD,
-            TO_MEMORY_WORD,
-            FROM_DEVICE_WORD_2,
-            TO_MEMORY_WORD_2,
+            slot!(Source, Device, 0, true),
+            slot!(Destination, Memory, 0, true),
+            slot!(Source, Device, 2, true),
+            slot!(Destination, Memory, 2, true),
         ],
     }
 }
@@ -209,25 +85,39 @@ fn plan_narrow(inward: bool, size: Size) -> &'static [Slot]
     ensures few { length result.now ≤ 6 }
 {
     match (inward, size) {
-        (false, Size::Byte) => &[FROM_MEMORY, TO_DEVICE],
-        (false, Size::Word) => &[FROM_MEMORY_WORD, TO_DEVICE, TO_DEVICE_2],
-        (false, Size::Long) => &[
-            FROM_MEMORY_WORD,
-            TO_DEVICE,
-            TO_DEVICE_2,
-            FROM_MEMORY_WORD_2,
-            TO_DEVICE_4,
-            TO_DEVICE_6,
+        (false, Size::Byte) => &[
+            slot!(Source, Memory, 0, false),
+            slot!(Destination, Device, 0, false),
         ],
-        (true, Size::Byte) => &[FROM_DEVICE, TO_MEMORY],
-        (true, Size::Word) => &[FROM_DEVICE, FROM_DEVICE_2, TO_MEMORY_WORD],
+        (false, Size::Word) => &[
+            slot!(Source, Memory, 0, true),
+            slot!(Destination, Device, 0, false),
+            slot!(Destination, Device, 2, false),
+        ],
+        (false, Size::Long) => &[
+            slot!(Source, Memory, 0, true),
+            slot!(Destination, Device, 0, false),
+            slot!(Destination, Device, 2, false),
+            slot!(Source, Memory, 2, true),
+            slot!(Destination, Device, 4, false),
+            slot!(Destination, Device, 6, false),
+        ],
+        (true, Size::Byte) => &[
+            slot!(Source, Device, 0, false),
+            slot!(Destination, Memory, 0, false),
+        ],
+        (true, Size::Word) => &[
+            slot!(Source, Device, 0, false),
+            slot!(Source, Device, 2, false),
+            slot!(Destination, Memory, 0, true),
+        ],
         (true, Size::Long) => &[
-            FROM_DEVICE,
-            FROM_DEVICE_2,
-            TO_MEMORY_WORD,
-            FROM_DEVICE_4,
-            FROM_DEVICE_6,
-            TO_MEMORY_WORD_2,
+            slot!(Source, Device, 0, false),
+            slot!(Source, Device, 2, false),
+            slot!(Destination, Memory, 0, true),
+            slot!(Source, Device, 4, false),
+            slot!(Source, Device, 6, false),
+            slot!(Destination, Memory, 2, true),
         ],
     }
 }
@@ -238,9 +128,12 @@ fn plan_single(size: Size) -> &'static [Slot]
     ensures few { length result.now ≤ 6 }
 {
     match size {
-        Size::Byte => &[THROUGH_MEMORY],
-        Size::Word => &[THROUGH_MEMORY_WORD],
-        Size::Long => &[THROUGH_MEMORY_WORD, THROUGH_MEMORY_WORD_2],
+        Size::Byte => &[slot!(Through, Memory, 0, false)],
+        Size::Word => &[slot!(Through, Memory, 0, true)],
+        Size::Long => &[
+            slot!(Through, Memory, 0, true),
+            slot!(Through, Memory, 2, true),
+        ],
     }
 }
 

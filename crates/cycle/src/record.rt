@@ -1,24 +1,40 @@
 // What a bus cycle is told as.
+ghost use Rattle.std.specs.Prelude.{◌≡◌};
+ghost use Rattle.cycle.specs.Record.{kind_letter};
+
 use registers::fault::Fault;
 
 // The data of a cycle: a byte, or a word with its high byte first.
-#[derive(Clone, Copy)]
+#[derive(Clone, Copy, PartialEq, Eq, Debug)]
 pub enum Data {
     Byte(u8),
     Word(u8, u8),
 }
 
 // A cycle reads or writes an operand's bytes, or reads a word of an entry.
-#[derive(Clone, Copy)]
+#[derive(Clone, Copy, PartialEq, Eq, Debug)]
 pub enum Kind {
     Read,
     Write,
     Entry,
 }
 
+impl Kind {
+    // The letter that stands for it.
+    pub fn letter(self) -> u8
+        ensures { result ≡ kind_letter self }
+    {
+        match self {
+            Kind::Read => b'R',
+            Kind::Write => b'W',
+            Kind::Entry => b'B',
+        }
+    }
+}
+
 // A cycle with the function code and the address that were sent (under single addressing those of the memory), or an
 // error in the place of one.
-#[derive(Clone, Copy)]
+#[derive(Clone, Copy, PartialEq, Eq, Debug)]
 pub enum Record {
     Cycle {
         channel: u8,

@@ -1,48 +1,36 @@
 // One cycle of a channel.
-ghost use Rattle.std.specs.Prelude.{◌≡◌, ◌<◌, ◌≤◌, OnSome};
+ghost use Rattle.std.specs.Prelude.{◌≡◌, ◌<◌, ◌≤◌, Ok, OnSome};
 ghost use Rattle.bus.specs.Memory.{MemoryMeaning};
 ghost use Rattle.devices.specs.Bank.{BankMeaning};
 ghost use Rattle.channel.specs.Operation.{words_read};
 ghost use Rattle.cycle.specs.Plan.{plan};
-ghost use Rattle.cycle.specs.Carry.{is_device_end, is_device_cycle};
 ghost use Rattle.cycle.specs.Serve.{Served, Kept, kind_by, side_fault, begun_at, operand_moved, slot_carried, slot_data, is_slot_ready, is_slot_answered, slot_served, slot_at, next_fault, operand_served, entry_served, served, bus_fault, is_entry_misplaced};
 
-use crate::carry::{
-    End, get, is_destination_answered, is_destination_ready, is_source_answered, is_source_ready,
-    put, sent,
-};
+use crate::carry::sent;
 use crate::plan::{Side, Slot, Way, plan};
 use crate::record::{Data, Kind, Record};
-use bus::memory::Memory;
+use crate::surroundings::Surroundings;
+use bus::memory::{Memory, Place};
 use channel::state::{Channel, Held, Phase, Words};
 use devices::bank::DeviceBank;
 use registers::config::is_odd;
 use registers::fault::Fault;
 use registers::groups::Config;
 
-// How serving a channel went: its device was not ready, a place was not answered, or a cycle was made.
-#[derive(Clone, Copy)]
-pub enum Outcome {
+// What keeps a cycle from being carried out: its device is not ready, or a place is not answered.
+#[derive(Clone, Copy, PartialEq, Eq, Debug)]
+pub enum Hindrance {
     Waiting,
     Failed(Fault),
-    Made(Record),
 }
 
-// How far an operand has come: the cycles done, the bytes held, and whether the device has signalled DONE.
+// How far an operand has come: the cycles done, the bytes held, and whether the device has signalled DONE. (The phase
+// has the same three only inside an operand; before its first cycle there are none to read.)
 #[derive(Clone, Copy)]
 struct Progress {
     cycles: u8,
     held: Held,
     done: bool,
-}
-
-fn is_device(end: End) -> bool
-    ensures { result ≡ is_device_end end }
-{
-    match end {
-        End::InDevice => true,
-        End::InMemory | End::InChannel => false,
-    }
 }
 
 impl Slot {
@@ -52,13 +40,8 @@ impl Slot {
         match self.way {
             Way::Source => Kind::Read,
             Way::Destination => Kind::Write,
-            Way::Through => {
-                if config.is_inward() {
-                    Kind::Write
-                } else {
-                    Kind::Read
-                }
-            }
+            Way::Through if config.is_inward() => Kind::Write,
+            Way::Through => Kind::Read,
         }
     }
 
@@ -69,29 +52,6 @@ impl Slot {
             Side::Memory => Fault::MemoryBus,
             Side::Device => Fault::DeviceBus,
         }
-    }
-
-    fn is_device_cycle(self, config: Config) -> bool
-        ensures { result ≡ is_device_cycle self config }
-    {
-        is_device(self.source(config)) || is_device(self.destination(config))
-    }
-
-    fn is_ready<D: DeviceBank>(self, number: u8, config: Config, devices: &D) -> bool
-        ensures { result ≡ is_slot_ready self number config (D.DeviceBank.bank devices.now) }
-    {
-        is_source_ready(self.source(config), devices, number, self.word)
-            && is_destination_ready(self.destination(config), devices, number, self.word)
-    }
-
-    fn is_answered<M: Memory>(self, channel: &Channel, memory: &M) -> bool
-        ensures { result ≡ is_slot_answered self channel.now (M.Memory.means memory.now) }
-    {
-        let config = channel.registers.config;
-        let code = self.code(channel);
-        let address = self.address(channel);
-        is_source_answered(self.source(config), memory, code, address, self.word)
-            && is_destination_answered(self.destination(config), memory, code, address, self.word)
     }
 }
 
@@ -121,42 +81,25 @@ fn carry<M: Memory, D: DeviceBank>(
     progress: Progress,
     number: u8,
     channel: &mut Channel,
-    memory: &mut M,
-    devices: &mut D,
-) -> Outcome
+    around: &mut Surroundings<M, D>,
+) -> Record
     requires { progress.cycles < 255 }
-    ensures { record { channel = channel.new; memory = M.Memory.means memory.new; bank = D.DeviceBank.bank devices.new; outcome = result } ≡ slot_carried slot last progress.cycles progress.held progress.done (slot_data slot number progress.held channel.old (M.Memory.means memory.old) (D.DeviceBank.bank devices.old)) number channel.old (M.Memory.means memory.old) (D.DeviceBank.bank devices.old) }
+    ensures { record { channel = channel.new; memory = M.Memory.means around.new.memory; bank = D.DeviceBank.bank around.new.devices; outcome = Ok result } ≡ slot_carried slot last progress.cycles progress.held progress.done (slot_data slot number progress.held channel.old (M.Memory.means around.old.memory) (D.DeviceBank.bank around.old.devices)) number channel.old (M.Memory.means around.old.memory) (D.DeviceBank.bank around.old.devices) }
 {
     let config = channel.registers.config;
-    let code = slot.code(channel);
-    let address = slot.address(channel);
-    let bytes = get(
-        slot,
-        slot.source(config),
-        channel,
-        number,
-        progress.held,
-        memory,
-        devices,
-    );
-    put(
-        slot,
-        slot.destination(config),
-        channel,
-        number,
-        bytes,
-        memory,
-        devices,
-    );
+    let (from, to) = slot.ends(config);
+    let place = slot.place(channel);
+    let bytes = around.get(from, number, place, slot.word, progress.held);
+    around.put(to, number, place, bytes);
     let held = slot.held_after(bytes, progress.held);
     advance(channel, last, Progress { held, ..progress });
-    Outcome::Made(Record::Cycle {
+    Record::Cycle {
         channel: number,
         kind: slot.kind(config),
-        code,
-        address,
+        code: place.code,
+        address: place.address,
         data: bytes,
-    })
+    }
 }
 
 // One cycle of an operand, or what keeps it from being carried out.
@@ -167,40 +110,28 @@ fn serve_slot<M: Memory, D: DeviceBank>(
     line: bool,
     number: u8,
     channel: &mut Channel,
-    memory: &mut M,
-    devices: &mut D,
-) -> Outcome
+    around: &mut Surroundings<M, D>,
+) -> Result<Record, Hindrance>
     requires { progress.cycles < 255 }
-    ensures all { record { channel = channel.new; memory = M.Memory.means memory.new; bank = D.DeviceBank.bank devices.new; outcome = result } ≡ slot_served slot last progress.cycles progress.held progress.done line number channel.old (M.Memory.means memory.old) (D.DeviceBank.bank devices.old) }
-    ensures kept { Kept result channel.old (M.Memory.means memory.old) (D.DeviceBank.bank devices.old) channel.new (M.Memory.means memory.new) (D.DeviceBank.bank devices.new) }
+    ensures all { record { channel = channel.new; memory = M.Memory.means around.new.memory; bank = D.DeviceBank.bank around.new.devices; outcome = result } ≡ slot_served slot last progress.cycles progress.held progress.done line number channel.old (M.Memory.means around.old.memory) (D.DeviceBank.bank around.old.devices) }
+    ensures kept { Kept result channel.old (M.Memory.means around.old.memory) (D.DeviceBank.bank around.old.devices) channel.new (M.Memory.means around.new.memory) (D.DeviceBank.bank around.new.devices) }
 {
     let config = channel.registers.config;
-    if !slot.is_ready(number, config, devices) {
-        return Outcome::Waiting;
+    if !slot.is_ready(number, config, &around.devices) {
+        return Err(Hindrance::Waiting);
     }
-    if !slot.is_answered(channel, memory) {
-        return Outcome::Failed(slot.fault());
+    if !slot.is_answered(channel, &around.memory) {
+        return Err(Hindrance::Failed(slot.fault()));
     }
     let done = progress.done || (line && slot.is_device_cycle(config));
-    carry(
+    Ok(carry(
         slot,
         last,
         Progress { done, ..progress },
         number,
         channel,
-        memory,
-        devices,
-    )
-}
-
-fn slot_in(slots: &[Slot], cycles: u8) -> Option<(Slot, bool)>
-    ensures { result ≡ slot_at cycles slots.now }
-{
-    let at = cycles as usize;
-    if at >= slots.len() {
-        return None;
-    }
-    Some((slots[at], at + 1 == slots.len()))
+        around,
+    ))
 }
 
 // The cycle of an operand that comes after so many, and whether it is the last.
@@ -208,10 +139,9 @@ fn next_slot(config: Config, cycles: u8) -> Option<(Slot, bool)>
     ensures slot { result ≡ slot_at cycles (plan config) }
     ensures few { OnSome result (cycles < 255) }
 {
-    if cycles == 255 {
-        return None;
-    }
-    slot_in(plan(config), cycles)
+    let slots = plan(config);
+    let at = cycles as usize;
+    Some((*slots.get(at)?, at + 1 == slots.len()))
 }
 
 fn serve_operand<M: Memory, D: DeviceBank>(
@@ -219,40 +149,40 @@ fn serve_operand<M: Memory, D: DeviceBank>(
     line: bool,
     number: u8,
     channel: &mut Channel,
-    memory: &mut M,
-    devices: &mut D,
-) -> Outcome
-    ensures all { record { channel = channel.new; memory = M.Memory.means memory.new; bank = D.DeviceBank.bank devices.new; outcome = result } ≡ operand_served progress.cycles progress.held progress.done line number channel.old (M.Memory.means memory.old) (D.DeviceBank.bank devices.old) }
-    ensures kept { Kept result channel.old (M.Memory.means memory.old) (D.DeviceBank.bank devices.old) channel.new (M.Memory.means memory.new) (D.DeviceBank.bank devices.new) }
+    around: &mut Surroundings<M, D>,
+) -> Result<Record, Hindrance>
+    ensures all { record { channel = channel.new; memory = M.Memory.means around.new.memory; bank = D.DeviceBank.bank around.new.devices; outcome = result } ≡ operand_served progress.cycles progress.held progress.done line number channel.old (M.Memory.means around.old.memory) (D.DeviceBank.bank around.old.devices) }
+    ensures kept { Kept result channel.old (M.Memory.means around.old.memory) (D.DeviceBank.bank around.old.devices) channel.new (M.Memory.means around.new.memory) (D.DeviceBank.bank around.new.devices) }
 {
-    match next_slot(channel.registers.config, progress.cycles) {
-        None => Outcome::Waiting,
-        Some((slot, last)) => serve_slot(
-            slot, last, progress, line, number, channel, memory, devices,
-        ),
-    }
+    let (slot, last) = next_slot(channel.registers.config, progress.cycles).ok_or(
+        Hindrance::Waiting,
+    )?;
+    serve_slot(slot, last, progress, line, number, channel, around)
 }
 
 // The next word of an entry.
-fn serve_entry<M: Memory>(words: Words, number: u8, channel: &mut Channel, memory: &M) -> Outcome
+fn serve_entry<M: Memory>(
+    words: Words,
+    number: u8,
+    channel: &mut Channel,
+    memory: &M,
+) -> Result<Record, Hindrance>
     ensures all { (b : BankMeaning) → record { channel = channel.new; memory = M.Memory.means memory.now; bank = b; outcome = result } ≡ entry_served words number channel.old (M.Memory.means memory.now) b }
     ensures kept { (m : MemoryMeaning) (b : BankMeaning) → Kept result channel.old m b channel.new m b }
 {
     let code = channel.registers.table.bfc;
     let address = sent(channel.registers.table.bar, 2 * words_read(words));
-    match memory.read_word(code, address) {
-        Some((high, low)) => {
-            channel.take_entry_word(u16::from_be_bytes([high, low]), words);
-            Outcome::Made(Record::Cycle {
-                channel: number,
-                kind: Kind::Entry,
-                code,
-                address,
-                data: Data::Word(high, low),
-            })
-        }
-        None => Outcome::Failed(Fault::BaseBus),
-    }
+    let (high, low) = memory
+        .read_word(Place { code, address })
+        .ok_or(Hindrance::Failed(Fault::BaseBus))?;
+    channel.take_entry_word(u16::from_be_bytes([high, low]), words);
+    Ok(Record::Cycle {
+        channel: number,
+        kind: Kind::Entry,
+        code,
+        address,
+        data: Data::Word(high, low),
+    })
 }
 
 fn words_read(words: Words) -> u32
@@ -272,12 +202,11 @@ fn words_read(words: Words) -> u32
 pub fn serve<M: Memory, D: DeviceBank>(
     channel: &mut Channel,
     number: u8,
-    memory: &mut M,
-    devices: &mut D,
+    around: &mut Surroundings<M, D>,
     line: bool,
-) -> Outcome
-    ensures all { record { channel = channel.new; memory = M.Memory.means memory.new; bank = D.DeviceBank.bank devices.new; outcome = result } ≡ served line number channel.old (M.Memory.means memory.old) (D.DeviceBank.bank devices.old) }
-    ensures kept { Kept result channel.old (M.Memory.means memory.old) (D.DeviceBank.bank devices.old) channel.new (M.Memory.means memory.new) (D.DeviceBank.bank devices.new) }
+) -> Result<Record, Hindrance>
+    ensures all { record { channel = channel.new; memory = M.Memory.means around.new.memory; bank = D.DeviceBank.bank around.new.devices; outcome = result } ≡ served line number channel.old (M.Memory.means around.old.memory) (D.DeviceBank.bank around.old.devices) }
+    ensures kept { Kept result channel.old (M.Memory.means around.old.memory) (D.DeviceBank.bank around.old.devices) channel.new (M.Memory.means around.new.memory) (D.DeviceBank.bank around.new.devices) }
 {
     match channel.phase {
         Phase::Idle => {
@@ -286,12 +215,12 @@ pub fn serve<M: Memory, D: DeviceBank>(
                 held: Held::NoByte,
                 done: false,
             };
-            serve_operand(progress, line, number, channel, memory, devices)
+            serve_operand(progress, line, number, channel, around)
         }
-        Phase::Fetching(words) => serve_entry(words, number, channel, memory),
+        Phase::Fetching(words) => serve_entry(words, number, channel, &around.memory),
         Phase::Inside { cycles, held, done } => {
             let progress = Progress { cycles, held, done };
-            serve_operand(progress, line, number, channel, memory, devices)
+            serve_operand(progress, line, number, channel, around)
         }
     }
 }
@@ -299,10 +228,7 @@ pub fn serve<M: Memory, D: DeviceBank>(
 fn slot_fault(config: Config, cycles: u8) -> Fault
     ensures { result ≡ next_fault (slot_at cycles (plan config)) }
 {
-    match next_slot(config, cycles) {
-        None => Fault::MemoryBus,
-        Some((slot, _)) => slot.fault(),
-    }
+    next_slot(config, cycles).map_or(Fault::MemoryBus, |(slot, _)| slot.fault())
 }
 
 // The error that a bus error in the channel's next cycle is.
@@ -312,11 +238,7 @@ pub fn bus_fault(channel: &Channel) -> Fault
     match channel.phase {
         Phase::Idle => slot_fault(channel.registers.config, 0),
         Phase::Fetching(_) => Fault::BaseBus,
-        Phase::Inside {
-            cycles,
-            held: _,
-            done: _,
-        } => slot_fault(channel.registers.config, cycles),
+        Phase::Inside { cycles, .. } => slot_fault(channel.registers.config, cycles),
     }
 }
 

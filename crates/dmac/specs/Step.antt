@@ -1,5 +1,5 @@
 -- One bus step.
-use Rattle.std.specs.Prelude.{ℕ, Bool, true, false, cond, ◌&&◌, ◌||◌, Some, None, Ok, Err, Option, Result, ◌==◌, nat_le, slice_set}
+use Rattle.std.specs.Prelude.{ℕ, Bool, true, false, cond, Some, None, Ok, Err, Option, Result, ◌==◌, slice_set}
 use Rattle.refusal.specs.declared.kinds.Refusal.{Refusal}
 use Rattle.refusal.specs.declared.kinds.Refusal.TheVariants.{NoException}
 use Rattle.registers.specs.declared.fault.Fault.{Fault}
@@ -9,11 +9,13 @@ use Rattle.devices.specs.Bank.{BankMeaning}
 use Rattle.channel.specs.State.{channel_failed}
 use Rattle.cycle.specs.declared.record.Record.{Record}
 use Rattle.cycle.specs.declared.record.Record.TheVariants.{Error}
-use Rattle.cycle.specs.declared.serve.Outcome.{Outcome}
-use Rattle.cycle.specs.declared.serve.Outcome.TheVariants.{Waiting as StillWaiting, Failed, Made}
+use Rattle.cycle.specs.declared.serve.Hindrance.{Hindrance}
+use Rattle.cycle.specs.declared.serve.Hindrance.TheVariants.{Waiting as StillWaiting, Failed}
+use Rattle.cycle.specs.declared.surroundings.Surroundings.{Surroundings}
 use Rattle.cycle.specs.Serve.{Served, served, bus_fault, is_entry_misplaced}
 use Rattle.dmac.specs.Controller.{Dmac, channel_at, controller_reset}
 use Rattle.dmac.specs.Choice.{chosen}
+pub use Rattle.dmac.specs.Exception.{is_exception}
 pub use Rattle.dmac.specs.declared.answer.Answer.{Answer}
 pub use Rattle.dmac.specs.declared.answer.Answer.TheVariants.{Reset, Idle, Halted, Retry, Waiting, Recorded}
 pub use Rattle.dmac.specs.declared.step.Gate.{Gate}
@@ -27,6 +29,10 @@ pub record Machine : Type 0 where
 
 abbrev pub machine_of : Dmac → MemoryMeaning → BankMeaning → Machine
 machine_of k m b = record { dmac = k; memory = m; bank = b }
+
+-- The same in its surroundings, by what their memory and their devices mean.
+abbrev pub machine_at : {M D : Type 0} → (M → MemoryMeaning) → (D → BankMeaning) → Dmac → Surroundings M D → Machine
+machine_at means bank k a = machine_of k (means a.memory) (bank a.devices)
 
 -- What a step leaves, and what it answers.
 pub record Stepped : Type 0 where
@@ -75,10 +81,10 @@ step_made n held r v s = record {
   answer = Recorded r;
 }
 
-abbrev pub step_by : Outcome → ℕ → Bool → Served → Machine → Stepped
-step_by StillWaiting n held v s = record { machine = s; answer = Waiting }
-step_by (Failed f) n held v s = step_failed n f s
-step_by (Made r) n held v s = step_made n held r v s
+abbrev pub step_by : Result Record Hindrance → ℕ → Bool → Served → Machine → Stepped
+step_by (Err StillWaiting) n held v s = record { machine = s; answer = Waiting }
+step_by (Err (Failed f)) n held v s = step_failed n f s
+step_by (Ok r) n held v s = step_made n held r v s
 
 -- The next cycle of channel n, which no exception hinders; the controller then holds the bus or not.
 abbrev pub step_passed : ℕ → Bool → Bool → Machine → Stepped
@@ -106,10 +112,6 @@ step_chosen (Some n) code done s = step_on n code done s
 -- A reset touches the controller alone.
 abbrev pub step_reset : Machine → Stepped
 step_reset s = record { machine = record { dmac = controller_reset s.dmac; memory = s.memory; bank = s.bank }; answer = Reset }
-
--- The exception codes are 0 and 3 to 7.
-abbrev pub is_exception : ℕ → Bool
-is_exception code = code == 0 || (nat_le 3 code && nat_le code 7)
 
 -- What a call of a step leaves, and what it answers.
 pub record Called (A : Type 0) : Type 0 where

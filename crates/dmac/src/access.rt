@@ -1,5 +1,5 @@
 // Register access: reading and writing a byte or a word at an offset.
-ghost use Rattle.std.specs.Prelude.{◌≡◌, ◌/◌, ◌%◌, ◌<◌};
+ghost use Rattle.std.specs.Prelude.{◌≡◌, ◌/◌, ◌%◌, ◌<◌, Some, None, MatchResult};
 ghost use Rattle.dmac.specs.Access.{register_of, register_after, reach_of, reach_after, is_nowhere, is_control, is_no_word, starts_by_word, word_refusal, half_read, byte_read, word_read, taken_in, byte_written, word_taken_in, word_written};
 
 use crate::controller::Dmac;
@@ -28,28 +28,22 @@ fn register_of(offset: u8) -> Access
 fn register_after(offset: u8) -> Access
     ensures { result ≡ register_after offset }
 {
-    if offset == 255 {
-        return Access::Nowhere;
+    match offset.checked_add(1) {
+        Some(next) => register_of(next),
+        None => Access::Nowhere,
     }
-    register_of(offset + 1)
 }
 
 fn is_nowhere(access: Access) -> bool
     ensures { result ≡ is_nowhere access }
 {
-    match access {
-        Access::Nowhere => true,
-        Access::Barred | Access::To(_) | Access::General => false,
-    }
+    matches!(access, Access::Nowhere)
 }
 
 fn is_control(access: Access) -> bool
     ensures { result ≡ is_control access }
 {
-    match access {
-        Access::To(Register::Ccr) => true,
-        _ => false,
-    }
+    matches!(access, Access::To(Register::Ccr))
 }
 
 fn is_no_word(offset: u8) -> bool
@@ -61,23 +55,24 @@ fn is_no_word(offset: u8) -> bool
 fn starts_by_word(offset: u8, value: u16) -> bool
     ensures { result ≡ starts_by_word offset value }
 {
-    is_control(register_after(offset)) && ((value % 256) as u8) & STR != 0
+    let [_, low] = value.to_be_bytes();
+    is_control(register_after(offset)) && low & STR != 0
 }
 
-// Why a word access at this offset is refused.
-fn word_refusal(offset: u8, starts: bool) -> Option<Refusal>
-    ensures { result ≡ word_refusal offset starts }
+// Whether a word access at this offset is allowed, or why it is refused.
+fn allow_word(offset: u8, starts: bool) -> Result<(), Refusal>
+    ensures { MatchResult result (λ _. word_refusal offset starts ≡ None) (λ r. word_refusal offset starts ≡ Some r) }
 {
     if is_no_word(offset) {
-        return Some(Refusal::NoRegister);
+        return Err(Refusal::NoRegister);
     }
     if offset % 2 == 1 {
-        return Some(Refusal::OddWord);
+        return Err(Refusal::OddWord);
     }
     if starts {
-        return Some(Refusal::StartByWord);
+        return Err(Refusal::StartByWord);
     }
-    None
+    Ok(())
 }
 
 impl Dmac {
@@ -107,14 +102,10 @@ impl Dmac {
     pub fn read_word(&self, offset: u8) -> Result<u16, Refusal>
         ensures { result ≡ word_read offset self.now }
     {
-        match word_refusal(offset, false) {
-            Some(refusal) => Err(refusal),
-            None => {
-                let high = self.read_half(register_of(offset), channel_of(offset));
-                let low = self.read_half(register_after(offset), channel_of(offset));
-                Ok(u16::from_be_bytes([high, low]))
-            }
-        }
+        allow_word(offset, false)?;
+        let high = self.read_half(register_of(offset), channel_of(offset));
+        let low = self.read_half(register_after(offset), channel_of(offset));
+        Ok(u16::from_be_bytes([high, low]))
     }
 
     fn reach_of(&self, offset: u8) -> Access
@@ -127,10 +118,10 @@ impl Dmac {
     fn reach_after(&self, offset: u8) -> Access
         ensures { result ≡ reach_after offset self.now }
     {
-        if offset == 255 {
-            return Access::Nowhere;
+        match offset.checked_add(1) {
+            Some(next) => self.reach_of(next),
+            None => Access::Nowhere,
         }
-        self.reach_of(offset + 1)
     }
 
     fn take_in(&mut self, channel: u8, high: Access, high_value: u8, low: Access, low_value: u8)
@@ -162,25 +153,16 @@ impl Dmac {
     {
         let high = self.reach_of(offset);
         let low = self.reach_after(offset);
-        self.take_in(
-            channel_of(offset),
-            high,
-            (value >> 8) as u8,
-            low,
-            (value % 256) as u8,
-        );
+        let [high_value, low_value] = value.to_be_bytes();
+        self.take_in(channel_of(offset), high, high_value, low, low_value);
     }
 
     // Writes two register bytes, or neither.
     pub fn write_word(&mut self, offset: u8, value: u16) -> Result<(), Refusal>
         ensures { record { state = self.new; answer = result } ≡ word_written offset value self.old }
     {
-        match word_refusal(offset, starts_by_word(offset, value)) {
-            Some(refusal) => Err(refusal),
-            None => {
-                self.take_in_word(offset, value);
-                Ok(())
-            }
-        }
+        allow_word(offset, starts_by_word(offset, value))?;
+        self.take_in_word(offset, value);
+        Ok(())
     }
 }

@@ -18,12 +18,7 @@ impl Dmac {
         ensures { result ≡ new_controller }
     {
         Dmac {
-            channels: [
-                Channel::new(),
-                Channel::new(),
-                Channel::new(),
-                Channel::new(),
-            ],
+            channels: [Channel::new(); 4],
             gcr: 0,
             last: 3,
             bus: false,
@@ -34,12 +29,9 @@ impl Dmac {
     pub(crate) fn reset(&mut self)
         ensures { self.new ≡ controller_reset self.old }
     {
-        let [mut a, mut b, mut c, mut d] = self.channels;
-        a.reset();
-        b.reset();
-        c.reset();
-        d.reset();
-        self.channels = [a, b, c, d];
+        for channel in &mut self.channels {
+            channel.reset();
+        }
         self.gcr = 0;
         self.last = 3;
         self.bus = false;

@@ -13,6 +13,7 @@ pub mod access;
 pub mod answer;
 pub mod controller;
 pub mod examples;
+mod exception;
 pub mod run;
 pub mod step;
 #[cfg(test)]

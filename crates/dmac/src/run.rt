@@ -1,19 +1,21 @@
 // Runs: many bus steps in a row, into a trace.
 ghost use Rattle.std.specs.Prelude.{◌≡◌, ◌<◌, length};
 ghost use Rattle.queue.specs.Queue.{held, capacity_of};
-ghost use Rattle.dmac.specs.Step.{Machine, machine_of};
+ghost use Rattle.dmac.specs.Step.{Machine, machine_at};
 ghost use Rattle.dmac.specs.Run.{turned_by, turned, run_on, run_taken};
 
 use crate::answer::Answer;
 use crate::controller::Dmac;
+use crate::exception::Exception;
 use bus::memory::Memory;
 use cycle::record::Record;
+use cycle::surroundings::Surroundings;
 use devices::bank::DeviceBank;
 use queue::Queue;
 use refusal::kinds::Refusal;
 
 // Why a run ended: all steps are made, no channel wants the bus, a device is waited for, or the trace is full.
-#[derive(Clone, Copy)]
+#[derive(Clone, Copy, PartialEq, Eq, Debug)]
 pub enum Ending {
     Done,
     Idle,
@@ -22,7 +24,7 @@ pub enum Ending {
 }
 
 // What a run tells: why it ended, and how many records it added to the trace.
-#[derive(Clone, Copy)]
+#[derive(Clone, Copy, PartialEq, Eq, Debug)]
 pub struct Ran {
     pub ending: Ending,
     pub records: u16,
@@ -48,26 +50,24 @@ impl Dmac {
     // One step into a trace that has a place; why the run ends, if it does.
     fn turn_into<M: Memory, D: DeviceBank>(
         &mut self,
-        memory: &mut M,
-        devices: &mut D,
+        around: &mut Surroundings<M, D>,
         trace: &mut Queue<'_, Record>,
     ) -> Option<Ending>
         requires { length (held trace.old) < capacity_of trace.old }
-        ensures turn { record { machine = machine_of self.new (M.Memory.means memory.new) (D.DeviceBank.bank devices.new); trace = held trace.new; stop = result } ≡ turned (machine_of self.old (M.Memory.means memory.old) (D.DeviceBank.bank devices.old)) (held trace.old) }
+        ensures turn { record { machine = machine_at M.Memory.means D.DeviceBank.bank self.new around.new; trace = held trace.new; stop = result } ≡ turned (machine_at M.Memory.means D.DeviceBank.bank self.old around.old) (held trace.old) }
         ensures room { capacity_of trace.new ≡ capacity_of trace.old }
     {
-        let answer = self.turn(memory, devices, 7, false);
+        let answer = self.turn(around, Exception::Absent, false);
         note(trace, answer)
     }
 
     fn run_on<M: Memory, D: DeviceBank>(
         &mut self,
-        memory: &mut M,
-        devices: &mut D,
+        around: &mut Surroundings<M, D>,
         trace: &mut Queue<'_, Record>,
         steps: u16,
     ) -> Ran
-        ensures run { record { machine = machine_of self.new (M.Memory.means memory.new) (D.DeviceBank.bank devices.new); trace = held trace.new; told = result } ≡ run_on steps (capacity_of trace.old) 0 (machine_of self.old (M.Memory.means memory.old) (D.DeviceBank.bank devices.old)) (held trace.old) }
+        ensures run { record { machine = machine_at M.Memory.means D.DeviceBank.bank self.new around.new; trace = held trace.new; told = result } ≡ run_on steps (capacity_of trace.old) 0 (machine_at M.Memory.means D.DeviceBank.bank self.old around.old) (held trace.old) }
         ensures room { capacity_of trace.new ≡ capacity_of trace.old }
     {
         for made in 0..steps {
@@ -77,7 +77,7 @@ impl Dmac {
                     records: made,
                 };
             }
-            if let Some(ending) = self.turn_into(memory, devices, trace) {
+            if let Some(ending) = self.turn_into(around, trace) {
                 return Ran {
                     ending,
                     records: made,
@@ -93,17 +93,16 @@ impl Dmac {
     // Makes up to so many bus steps without an exception and without DONE, and adds a record of each to the trace.
     pub fn run<M: Memory, D: DeviceBank>(
         &mut self,
-        memory: &mut M,
-        devices: &mut D,
+        around: &mut Surroundings<M, D>,
         trace: &mut Queue<'_, Record>,
         steps: u16,
     ) -> Result<Ran, Refusal>
-        ensures run { record { machine = machine_of self.new (M.Memory.means memory.new) (D.DeviceBank.bank devices.new); trace = held trace.new; answer = result } ≡ run_taken steps (capacity_of trace.old) (machine_of self.old (M.Memory.means memory.old) (D.DeviceBank.bank devices.old)) (held trace.old) }
+        ensures run { record { machine = machine_at M.Memory.means D.DeviceBank.bank self.new around.new; trace = held trace.new; answer = result } ≡ run_taken steps (capacity_of trace.old) (machine_at M.Memory.means D.DeviceBank.bank self.old around.old) (held trace.old) }
         ensures room { capacity_of trace.new ≡ capacity_of trace.old }
     {
         if steps > 0 && trace.is_full() {
             return Err(Refusal::TraceFull);
         }
-        Ok(self.run_on(memory, devices, trace, steps))
+        Ok(self.run_on(around, trace, steps))
     }
 }

@@ -1,22 +1,26 @@
 // The bus step and the request lines.
 ghost use Rattle.std.specs.Prelude.{◌≡◌, ◌<◌, IfSome};
 ghost use Rattle.dmac.specs.Choice.{inside_of, counting_of, priorities_of, chosen};
-ghost use Rattle.dmac.specs.Step.{machine_of, gate_of, failed, step_passed, step_on, step_chosen, step_taken};
+ghost use Rattle.dmac.specs.Exception.{code_of};
+ghost use Rattle.dmac.specs.Step.{machine_at, gate_of, failed, step_passed, step_on, step_chosen, step_taken};
 ghost use Rattle.dmac.specs.Line.{line_changed};
 
 use crate::answer::Answer;
 use crate::controller::Dmac;
+use crate::exception::Exception;
 use bus::memory::Memory;
+use channel::state::Channel;
 use choice::choose;
 use cycle::record::Record;
-use cycle::serve::{Outcome, bus_fault, is_entry_misplaced, serve};
+use cycle::serve::{Hindrance, bus_fault, is_entry_misplaced, serve};
+use cycle::surroundings::Surroundings;
 use devices::bank::DeviceBank;
 use refusal::kinds::Refusal;
 use registers::fault::Fault;
 
 // What an exception code makes of the next cycle: it passes, and the controller then holds the bus or not; it is
 // halted; it is to be retried, and the bus is held or not; or it is a bus error.
-#[derive(Clone, Copy)]
+#[derive(Clone, Copy, PartialEq, Eq, Debug)]
 pub enum Gate {
     Passes(bool),
     Halts,
@@ -25,21 +29,16 @@ pub enum Gate {
 }
 
 // What the exception code makes of a cycle, if the controller holds the bus or not.
-fn gate_of(exception: u8, bus: bool) -> Gate
-    ensures { result ≡ gate_of exception bus }
+fn gate_of(exception: Exception, bus: bool) -> Gate
+    ensures { result ≡ gate_of (code_of exception) bus }
 {
     match exception {
-        6 => {
-            if bus {
-                Gate::Passes(false)
-            } else {
-                Gate::Halts
-            }
-        }
-        5 => Gate::Fails,
-        4 => Gate::Retries(bus),
-        3 => Gate::Retries(false),
-        _ => Gate::Passes(true),
+        Exception::Halt if bus => Gate::Passes(false),
+        Exception::Halt => Gate::Halts,
+        Exception::BusError => Gate::Fails,
+        Exception::Retry => Gate::Retries(bus),
+        Exception::Relinquish => Gate::Retries(false),
+        Exception::Absent | Exception::Reset => Gate::Passes(true),
     }
 }
 
@@ -49,39 +48,20 @@ impl Dmac {
         ensures value { result ≡ inside_of self.now }
         ensures within { IfSome result (λ c. c < 4) }
     {
-        if self.channels[0].is_inside() {
-            Some(0)
-        } else if self.channels[1].is_inside() {
-            Some(1)
-        } else if self.channels[2].is_inside() {
-            Some(2)
-        } else if self.channels[3].is_inside() {
-            Some(3)
-        } else {
-            None
-        }
+        let channel = self.channels.iter().position(Channel::is_inside)?;
+        Some(channel as u8)
     }
 
     fn counting(&self) -> [bool; 4]
         ensures { result ≡ counting_of self.now }
     {
-        [
-            self.channels[0].is_counting(),
-            self.channels[1].is_counting(),
-            self.channels[2].is_counting(),
-            self.channels[3].is_counting(),
-        ]
+        self.channels.map(|channel| channel.is_counting())
     }
 
     fn priorities(&self) -> [u8; 4]
         ensures { result ≡ priorities_of self.now }
     {
-        [
-            self.channels[0].registers.vectors.cpr,
-            self.channels[1].registers.vectors.cpr,
-            self.channels[2].registers.vectors.cpr,
-            self.channels[3].registers.vectors.cpr,
-        ]
+        self.channels.map(|channel| channel.registers.vectors.cpr)
     }
 
     // The channel that the next cycle is for.
@@ -108,49 +88,41 @@ impl Dmac {
     // A cycle of the chosen channel that no exception hinders; the bus is then held or not.
     fn pass<M: Memory, D: DeviceBank>(
         &mut self,
-        memory: &mut M,
-        devices: &mut D,
+        around: &mut Surroundings<M, D>,
         channel: u8,
         held: bool,
         done: bool,
     ) -> Answer
         requires { channel < 4 }
-        ensures { record { machine = machine_of self.new (M.Memory.means memory.new) (D.DeviceBank.bank devices.new); answer = result } ≡ step_passed channel held done (machine_of self.old (M.Memory.means memory.old) (D.DeviceBank.bank devices.old)) }
+        ensures { record { machine = machine_at M.Memory.means D.DeviceBank.bank self.new around.new; answer = result } ≡ step_passed channel held done (machine_at M.Memory.means D.DeviceBank.bank self.old around.old) }
     {
-        match serve(
-            &mut self.channels[channel as usize],
-            channel,
-            memory,
-            devices,
-            done,
-        ) {
-            Outcome::Waiting => Answer::Waiting,
-            Outcome::Failed(fault) => self.fail(channel, fault),
-            Outcome::Made(record) => {
+        match serve(&mut self.channels[channel as usize], channel, around, done) {
+            Ok(record) => {
                 self.last = channel;
                 self.bus = held;
                 Answer::Recorded(record)
             }
+            Err(Hindrance::Waiting) => Answer::Waiting,
+            Err(Hindrance::Failed(fault)) => self.fail(channel, fault),
         }
     }
 
     // The step of the chosen channel.
     fn step_on<M: Memory, D: DeviceBank>(
         &mut self,
-        memory: &mut M,
-        devices: &mut D,
+        around: &mut Surroundings<M, D>,
         channel: u8,
-        exception: u8,
+        exception: Exception,
         done: bool,
     ) -> Answer
         requires { channel < 4 }
-        ensures { record { machine = machine_of self.new (M.Memory.means memory.new) (D.DeviceBank.bank devices.new); answer = result } ≡ step_on channel exception done (machine_of self.old (M.Memory.means memory.old) (D.DeviceBank.bank devices.old)) }
+        ensures { record { machine = machine_at M.Memory.means D.DeviceBank.bank self.new around.new; answer = result } ≡ step_on channel (code_of exception) done (machine_at M.Memory.means D.DeviceBank.bank self.old around.old) }
     {
         if is_entry_misplaced(&self.channels[channel as usize]) {
             return self.fail(channel, Fault::BaseAddress);
         }
         match gate_of(exception, self.bus) {
-            Gate::Passes(held) => self.pass(memory, devices, channel, held, done),
+            Gate::Passes(held) => self.pass(around, channel, held, done),
             Gate::Halts => Answer::Halted,
             Gate::Retries(held) => {
                 self.bus = held;
@@ -166,39 +138,36 @@ impl Dmac {
     // The step of whatever channel is chosen.
     pub(crate) fn turn<M: Memory, D: DeviceBank>(
         &mut self,
-        memory: &mut M,
-        devices: &mut D,
-        exception: u8,
+        around: &mut Surroundings<M, D>,
+        exception: Exception,
         done: bool,
     ) -> Answer
-        ensures { record { machine = machine_of self.new (M.Memory.means memory.new) (D.DeviceBank.bank devices.new); answer = result } ≡ step_chosen (chosen self.old) exception done (machine_of self.old (M.Memory.means memory.old) (D.DeviceBank.bank devices.old)) }
+        ensures { record { machine = machine_at M.Memory.means D.DeviceBank.bank self.new around.new; answer = result } ≡ step_chosen (chosen self.old) (code_of exception) done (machine_at M.Memory.means D.DeviceBank.bank self.old around.old) }
     {
         match self.chosen() {
             None => {
                 self.bus = false;
                 Answer::Idle
             }
-            Some(channel) => self.step_on(memory, devices, channel, exception, done),
+            Some(channel) => self.step_on(around, channel, exception, done),
         }
     }
 
     // One bus step: at most one cycle, of the channel whose turn it is. `done` is the DONE line.
     pub fn step<M: Memory, D: DeviceBank>(
         &mut self,
-        memory: &mut M,
-        devices: &mut D,
+        around: &mut Surroundings<M, D>,
         exception: u8,
         done: bool,
     ) -> Result<Answer, Refusal>
-        ensures { record { machine = machine_of self.new (M.Memory.means memory.new) (D.DeviceBank.bank devices.new); answer = result } ≡ step_taken exception done (machine_of self.old (M.Memory.means memory.old) (D.DeviceBank.bank devices.old)) }
+        ensures { record { machine = machine_at M.Memory.means D.DeviceBank.bank self.new around.new; answer = result } ≡ step_taken exception done (machine_at M.Memory.means D.DeviceBank.bank self.old around.old) }
     {
-        match exception {
-            0 => {
+        match Exception::try_from(exception)? {
+            Exception::Reset => {
                 self.reset();
                 Ok(Answer::Reset)
             }
-            3..=7 => Ok(self.turn(memory, devices, exception, done)),
-            _ => Err(Refusal::NoException),
+            other => Ok(self.turn(around, other, done)),
         }
     }
 

@@ -2,7 +2,7 @@
 use Rattle.std.proofs.Common.{ℕ, ◌-◌, ◌<◌, ◌≤◌, length, Ok, ◌∙◌, ap₂, arith}
 use Rattle.queue.specs.Queue.{held, capacity_of}
 use Rattle.dmac.specs.Controller.{new_controller}
-use Rattle.dmac.specs.Step.{machine_of}
+use Rattle.dmac.specs.Step.{machine_at, machine_of}
 use Rattle.audit.specs.Calls.{ReadByte, Byte}
 use Rattle.audit.specs.Played.{calls_of, played}
 use Rattle.audit.proofs.Logs.{turn_again, play_end, played_lawfully}
@@ -13,12 +13,12 @@ loop-entry-preserved g c =
     let lt : c.loop-entry.entry-index < length c.loop-entry.log = omega (arith, c.loop-entry.auto.log) in (
       turn_again c.loop-entry.log c.loop-entry.entry-index (record { call = ReadByte 0; room = 0; reply = Ok (Byte 0) })
           (capacity_of c.loop-entry.trace) (capacity_of c.perform-entry.new.trace) (c.capacity.result - c.len.result)
-          (machine_of c.loop-entry.dmac (g.M.Memory.means c.loop-entry.memory) (g.D.DeviceBank.bank c.loop-entry.devices))
+          (machine_at g.M.Memory.means g.D.DeviceBank.bank c.loop-entry.dmac c.loop-entry.around)
           (held c.loop-entry.trace)
           (played (calls_of c.args.log.now) (capacity_of c.args.trace.now)
-          (machine_of new_controller (g.M.Memory.means c.args.memory.now) (g.D.DeviceBank.bank c.args.devices.now)) (held c.args.trace.now))
+          (machine_at g.M.Memory.means g.D.DeviceBank.bank new_controller c.args.around.now) (held c.args.trace.now))
           (record {
-            machine = machine_of c.perform-entry.new.dmac (g.M.Memory.means c.perform-entry.new.memory) (g.D.DeviceBank.bank c.perform-entry.new.devices);
+            machine = machine_at g.M.Memory.means g.D.DeviceBank.bank c.perform-entry.new.dmac c.perform-entry.new.around;
             trace = held c.perform-entry.new.trace;
             reply = c.perform-entry.result;
           })
@@ -29,17 +29,17 @@ loop-entry-preserved g c =
 pub returns : goal.returns
 returns g c =
     let le : length c.loop-entry.log ≤ c.loop-entry.entry-index = omega (arith, c.loop-entry.auto.log) in
-    let m = g.M.Memory.means c.args.memory.now in
-    let b = g.D.DeviceBank.bank c.args.devices.now in
+    let m = g.M.Memory.means c.args.around.now.memory in
+    let b = g.D.DeviceBank.bank c.args.around.now.devices in
     let whole = played (calls_of c.args.log.now) (capacity_of c.args.trace.now) (machine_of new_controller m b) (held c.args.trace.now) in
     let e = play_end c.loop-entry.log c.loop-entry.entry-index (capacity_of c.loop-entry.trace)
-    (machine_of c.loop-entry.dmac (g.M.Memory.means c.loop-entry.memory) (g.D.DeviceBank.bank c.loop-entry.devices))
+    (machine_at g.M.Memory.means g.D.DeviceBank.bank c.loop-entry.dmac c.loop-entry.around)
     (held c.loop-entry.trace) whole le c.loop-entry.invariant.0 in
     record {
       played = e;
       lawful = played_lawfully (calls_of c.args.log.now) (capacity_of c.args.trace.now) (held c.args.trace.now) m b
           (record {
-            machine = machine_of c.loop-entry.dmac (g.M.Memory.means c.loop-entry.memory) (g.D.DeviceBank.bank c.loop-entry.devices);
+            machine = machine_at g.M.Memory.means g.D.DeviceBank.bank c.loop-entry.dmac c.loop-entry.around;
             trace = held c.loop-entry.trace;
             entries = c.loop-entry.log;
           }) e;

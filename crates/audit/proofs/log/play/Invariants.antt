@@ -2,7 +2,7 @@
 use Rattle.std.proofs.Common.{◌≡◌, take, drop}
 use Rattle.queue.specs.Queue.{held, capacity_of}
 use Rattle.dmac.specs.Controller.{new_controller}
-use Rattle.dmac.specs.Step.{machine_of}
+use Rattle.dmac.specs.Step.{machine_at}
 use Rattle.audit.specs.Played.{calls_of, played}
 use Rattle.audit.proofs.Logs.{joined}
 use Rattle.audit.proofs.log.play.Given as goal
@@ -11,7 +11,7 @@ abbrev pub invariant-loop-entry : goal.invariant-loop-entry
 invariant-loop-entry g l =
     (joined (take l.entry-index l.log)
     (played (calls_of (drop l.entry-index l.log)) (capacity_of l.trace)
-    (machine_of l.dmac (g.M.Memory.means l.memory) (g.D.DeviceBank.bank l.devices)) (held l.trace))
+    (machine_at g.M.Memory.means g.D.DeviceBank.bank l.dmac l.around) (held l.trace))
     ≡ played (calls_of l.initial.log) (capacity_of l.initial.trace)
-    (machine_of new_controller (g.M.Memory.means l.initial.memory) (g.D.DeviceBank.bank l.initial.devices)) (held l.initial.trace))
+    (machine_at g.M.Memory.means g.D.DeviceBank.bank new_controller l.initial.around) (held l.initial.trace))
     × (capacity_of l.trace ≡ capacity_of l.initial.trace)
