@@ -29,6 +29,7 @@ use bus::flat::Flat;
 use bus::memory::Memory;
 use bus::split::Split;
 use cycle::record::Record;
+use cycle::surroundings::Surroundings;
 use devices::pair::Pair;
 use devices::printer::Printer;
 use devices::tape::Tape;
@@ -134,11 +135,11 @@ fn play_with<M: Memory + Drop, W: Write>(
     let trace = Queue::new(&mut slots);
     let [mut first, mut second, mut third, mut fourth] = media;
     let devices = four_lent(&mut first, &mut second, &mut third, &mut fourth);
+    let around = Surroundings { memory, devices };
     let mut player = Player {
         dmac: Dmac::new(),
-        memory,
+        around,
         upper,
-        devices,
         trace,
         moved: blanks(heap, places)?,
     };

@@ -4,8 +4,9 @@ use crate::line::{Line, Question};
 use crate::print::Shown;
 use audit::call::{Call, Reply};
 use audit::perform::perform;
-use bus::memory::Memory;
+use bus::memory::{Memory, Place};
 use cycle::record::Record;
+use cycle::surroundings::Surroundings;
 use devices::pair::Pair;
 use devices::printer::Printer;
 use devices::tape::Tape;
@@ -56,9 +57,8 @@ const PLACES: u32 = 0x1000000;
 #[derive(Drop)]
 pub struct Player<'a, M: Memory> {
     pub dmac: Dmac,
-    pub memory: M,
+    pub around: Surroundings<M, Four<'a>>,
     pub upper: Option<u8>,
-    pub devices: Four<'a>,
     pub trace: Queue<'a, Record>,
     pub moved: Vec<Record>,
 }
@@ -75,13 +75,7 @@ impl<'a, M: Memory> Player<'a, M> {
 
     // Makes a call, and prints what it replies.
     fn make<W: Write>(&mut self, call: Call, out: &mut W) -> io::Result<()> {
-        let reply = perform(
-            &mut self.dmac,
-            &mut self.memory,
-            &mut self.devices,
-            &mut self.trace,
-            call,
-        );
+        let reply = perform(&mut self.dmac, &mut self.around, &mut self.trace, call);
         write!(out, "{}", Shown(reply))
     }
 
@@ -139,7 +133,11 @@ impl<'a, M: Memory> Player<'a, M> {
     // The bytes from a place on; two hyphens for one that is not answered.
     fn peek<W: Write>(&self, code: u8, address: u32, count: u32, out: &mut W) -> io::Result<()> {
         for index in 0..count.min(PLACES) {
-            match self.memory.read(code, address.wrapping_add(index)) {
+            let place = Place {
+                code,
+                address: address.wrapping_add(index),
+            };
+            match self.around.memory.read(place) {
                 Some(byte) => write!(out, "{byte:02X}")?,
                 None => write!(out, "--")?,
             }
@@ -150,7 +148,7 @@ impl<'a, M: Memory> Player<'a, M> {
     // All bytes that a function code names.
     fn all_bytes<W: Write>(&self, code: u8, out: &mut W) -> io::Result<()> {
         for address in 0..PLACES {
-            let Some(byte) = self.memory.read(code, address) else {
+            let Some(byte) = self.around.memory.read(Place { code, address }) else {
                 break;
             };
             write!(out, "{byte:02X}")?;
@@ -170,11 +168,12 @@ impl<'a, M: Memory> Player<'a, M> {
     }
 
     fn device_of(&self, channel: u8) -> &Single<'a> {
+        let devices = &self.around.devices;
         match channel {
-            0 => &self.devices.first.first,
-            1 => &self.devices.first.second,
-            2 => &self.devices.second.first,
-            _ => &self.devices.second.second,
+            0 => &devices.first.first,
+            1 => &devices.first.second,
+            2 => &devices.second.first,
+            _ => &devices.second.second,
         }
     }
 }

@@ -1,6 +1,6 @@
 // The texts of answers.
 use audit::call::Reply;
-use cycle::record::{Data, Kind, Record};
+use cycle::record::{Data, Record};
 use dmac::answer::Answer;
 use dmac::run::{Ending, Ran};
 use refusal::kinds::Refusal;
@@ -32,14 +32,6 @@ impl fmt::Display for Shown<Data> {
     }
 }
 
-fn letter(kind: Kind) -> char {
-    match kind {
-        Kind::Read => 'R',
-        Kind::Write => 'W',
-        Kind::Entry => 'B',
-    }
-}
-
 // An address is shown with 24 bits.
 impl fmt::Display for Shown<Record> {
     fn fmt<W: fmt::Write>(&self, f: &mut fmt::Formatter<W>) -> fmt::Result {
@@ -51,7 +43,7 @@ impl fmt::Display for Shown<Record> {
                 address,
                 data,
             } => {
-                let letter = letter(kind);
+                let letter = char::from(kind.letter());
                 let address = address & 0xFFFFFF;
                 let bytes = Shown(data);
                 write!(f, "cycle {channel} {letter} {code} {address:06X} {bytes}")
