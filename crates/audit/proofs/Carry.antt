@@ -1,6 +1,6 @@
 -- A carried-out cycle of an operand keeps the invariant.
 use Rattle.std.proofs.Common.{◌≡◌, ℕ, suc, ◌+◌, ◌-◌, Bool, true, false, eqb, List, [], ◌∷◌, ◌++◌, length, drop, sym, refl, ap, ◌∙◌, subst, ap₂, append_assoc, append-nil, add-one, arith, length-append}
-use Rattle.std.proofs.lemmas.List.{nil_from_length}
+use Rattle.std.proofs.lemmas.List.{nil_from_length, length-replicate}
 use Rattle.std.proofs.lemmas.Bool.{eqb-true, eq-eqb, ne_eqb, and_parts, cond_both}
 use Rattle.registers.specs.Config.{is_single, is_inward, is_misplaced, size_of, bytes_of, next_mar, next_dar}
 use Rattle.registers.specs.Status.{is_active}
@@ -22,7 +22,7 @@ use Rattle.cycle.specs.Plan.{plan}
 use Rattle.cycle.specs.Held.{held_first}
 use Rattle.cycle.specs.Carry.{count_of, held_after, slot_code_by, slot_address_by, slot_code, slot_address}
 use Rattle.cycle.specs.Serve.{kind_by, begun_at, operand_moved}
-use Rattle.audit.specs.Operand.{Place, Move, Operand, paired, operand, operands}
+use Rattle.audit.specs.Operand.{Place, bare_device, Move, Operand, paired, operand, operands}
 use Rattle.audit.specs.Book.{Book, Gathered, with_gathered, bytes_told, gathered_more, operand_gathered, operand_added, operand_noted, move_noted, cycle_noted, places_written}
 use Rattle.audit.specs.Law.{Faithful}
 use Rattle.audit.proofs.Basics.{no, each_more, length_join}
@@ -30,7 +30,7 @@ use Rattle.audit.proofs.Plan.{code_at, address_at, slot_tos, all_froms, all_tos,
 use Rattle.audit.proofs.Inv.{held_list, InvX, Operating}
 use Rattle.audit.proofs.Even.{next_mar_even, next_dar_even}
 use Rattle.audit.proofs.Blocks.{Between, settled_inv}
-use Rattle.audit.proofs.Flow.{slotted, flow_on, length_from, length_bare}
+use Rattle.audit.proofs.Flow.{slotted, flow_on, length_from}
 
 -- The bytes that the cycles to come write are as many as the plan says.
 tos_length : (k : Config) (si i : Bool) (y : Way) (s : Side) (f a n : ℕ) → fits si i y s ≡ true → length (places_written si i k (kind_by y k) f a n) ≡ written_by y n
@@ -38,7 +38,7 @@ tos_length k true i Source s f a n e = no e
 tos_length k true i Destination s f a n e = no e
 tos_length k false i Through s f a n e = no e
 tos_length k true true Through s f a n e = length_from _ a n
-tos_length k true false Through s f a n e = length_bare n
+tos_length k true false Through s f a n e = length-replicate n bare_device
 tos_length k false true Source s f a n e = refl
 tos_length k false false Source s f a n e = refl
 tos_length k false true Destination s f a n e = length_from _ a n

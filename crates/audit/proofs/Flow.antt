@@ -1,6 +1,6 @@
 -- What a cycle of the plan gives, writes and leaves held.
 use Rattle.std.proofs.Common.{◌≡◌, ℕ, zero, suc, ◌+◌, ◌-◌, ◌<◌, ◌≤◌, Bool, true, false, List, [], ◌∷◌, ◌++◌, length, Some, None, Option, sym, refl, ap, ◌∙◌, subst, append_assoc, append-nil, arith, length-append}
-use Rattle.std.proofs.lemmas.List.{nil_from_length}
+use Rattle.std.proofs.lemmas.List.{nil_from_length, length-replicate}
 use Rattle.std.proofs.lemmas.Bool.{eqb-true, leb-true, ltb-true, and_parts}
 use Rattle.registers.specs.declared.groups.Config.{Config}
 use Rattle.bus.specs.Memory.{MemoryMeaning, byte_read, word_read}
@@ -20,7 +20,7 @@ use Rattle.cycle.specs.declared.record.Kind.TheVariants.{Read, Write}
 use Rattle.cycle.specs.Held.{byte_data, word_data, held_first, held_rest, held_more}
 use Rattle.cycle.specs.Carry.{count_of, data_got, held_after}
 use Rattle.cycle.specs.Serve.{kind_by}
-use Rattle.audit.specs.Operand.{Place, in_memory, device_place, bare}
+use Rattle.audit.specs.Operand.{Place, in_memory, bare_device, device_place}
 use Rattle.audit.specs.Book.{bytes_told, bytes_from, places_read, places_written, bytes_given, bytes_put}
 use Rattle.audit.proofs.Basics.{no}
 use Rattle.audit.proofs.Plan.{fits, runs_on, runs, written_by, total_written}
@@ -29,10 +29,6 @@ use Rattle.audit.proofs.Inv.{held_list}
 pub length_from : (at : ℕ → Place) (a n : ℕ) → length (bytes_from at a n) ≡ n
 length_from at a zero = refl
 length_from at a (suc n) = ap (λ (k : ℕ). suc k) (length_from at (a + 1) n)
-
-pub length_bare : (n : ℕ) → length (bare n) ≡ n
-length_bare zero = refl
-length_bare (suc n) = ap (λ (k : ℕ). suc k) (length_bare n)
 
 -- A cycle has as many bytes as it should.
 byte_length : (o : Option ℕ) → length (bytes_told (byte_data o)) ≡ 1
@@ -121,12 +117,12 @@ write_none k true f a n = refl
 write_none k false f a n = refl
 
 single_read : (k : Config) (i : Bool) (kind : Kind) (f a n : ℕ) → length (places_read true i k kind f a n) ≡ n
-single_read k true kind f a n = length_bare n
+single_read k true kind f a n = length-replicate n bare_device
 single_read k false kind f a n = length_from (in_memory f) a n
 
 single_written : (k : Config) (i : Bool) (kind : Kind) (f a n : ℕ) → length (places_written true i k kind f a n) ≡ n
 single_written k true kind f a n = length_from (in_memory f) a n
-single_written k false kind f a n = length_bare n
+single_written k false kind f a n = length-replicate n bare_device
 
 pub flow_on : (k : Config) (si i : Bool) (y : Way) (s : Side) (w : Bool) (f a : ℕ) (qs : List Slot) (v : Data) (h : Held) (wrote gave : List ℕ)
     → Slotted si i (length (held_list h)) y s (count_of w) qs → length (bytes_told v) ≡ count_of w → (y ≡ Destination → v ≡ held_first w h)

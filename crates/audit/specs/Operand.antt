@@ -1,5 +1,5 @@
 -- Operands, byte by byte.
-use Rattle.std.specs.Prelude.{ℕ, zero, suc, ◌+◌, ◌-◌, ◌*◌, ◌%◌, Bool, true, false, cond, ◌&&◌, List, [], ◌∷◌, ◌==◌, nat_le}
+use Rattle.std.specs.Prelude.{ℕ, zero, suc, ◌+◌, ◌-◌, ◌*◌, ◌%◌, Bool, true, false, cond, ◌&&◌, List, [], ◌∷◌, replicate, ◌==◌, nat_le}
 use Rattle.registers.specs.Config.{dtyp, reqg, mac, dac, is_single, is_inward, is_port16, size_of, bytes_of}
 use Rattle.registers.specs.declared.groups.Config.{Config}
 
@@ -47,8 +47,7 @@ device_place k code a = cond (dtyp k == 0 && nat_le (reqg k) 1) (in_memory code 
 
 -- So many times the device of single addressing.
 abbrev pub bare : ℕ → List Place
-bare zero = []
-bare (suc n) = bare_device ∷ bare n
+bare n = replicate n bare_device
 
 -- The device side: from DAR on, one byte after the other through a 16-bit port, at every other address through an 8-bit
 -- one.

@@ -1,7 +1,7 @@
 // Reading and writing the registers of a channel.
-ghost use Rattle.std.specs.Prelude.{◌≡◌};
-ghost use Rattle.channel.specs.Read.{byte16, byte32, register_read};
-ghost use Rattle.channel.specs.Write.{with_byte16, with_byte32, register_written, reached, half_written, is_barred, written};
+ghost use Rattle.std.specs.Prelude.{◌≡◌, ◌-◌, ◌<◌, min, slice_index, slice_set};
+ghost use Rattle.channel.specs.Read.{register_read};
+ghost use Rattle.channel.specs.Write.{register_written, reached, half_written, written};
 
 use crate::decode::{Access, Register, decode};
 use crate::state::Channel;
@@ -18,11 +18,11 @@ impl Channel {
             Register::Ocr => self.registers.config.ocr,
             Register::Scr => self.registers.config.scr,
             Register::Ccr => self.registers.control.ccr,
-            Register::Mtc(k) => byte_of_16(k, self.registers.counters.mtc),
-            Register::Mar(k) => byte_of_32(k, self.registers.counters.mar),
-            Register::Dar(k) => byte_of_32(k, self.registers.counters.dar),
-            Register::Btc(k) => byte_of_16(k, self.registers.table.btc),
-            Register::Bar(k) => byte_of_32(k, self.registers.table.bar),
+            Register::Mtc(k) => byte_of(k, self.registers.counters.mtc.to_be_bytes()),
+            Register::Mar(k) => byte_of(k, self.registers.counters.mar.to_be_bytes()),
+            Register::Dar(k) => byte_of(k, self.registers.counters.dar.to_be_bytes()),
+            Register::Btc(k) => byte_of(k, self.registers.table.btc.to_be_bytes()),
+            Register::Bar(k) => byte_of(k, self.registers.table.bar.to_be_bytes()),
             Register::Niv => self.registers.vectors.niv,
             Register::Eiv => self.registers.vectors.eiv,
             Register::Mfc => self.registers.counters.mfc,
@@ -43,31 +43,26 @@ impl Channel {
             Register::Ocr => self.registers.config.ocr = value & 0xBF,
             Register::Scr => self.registers.config.scr = value & 0x0F,
             Register::Ccr => self.write_control(value),
-            Register::Mtc(k) => self.registers.counters.mtc = with_byte_16(
-                k,
-                value,
-                self.registers.counters.mtc,
-            ),
-            Register::Mar(k) => self.registers.counters.mar = with_byte_32(
-                k,
-                value,
-                self.registers.counters.mar,
-            ),
-            Register::Dar(k) => self.registers.counters.dar = with_byte_32(
-                k,
-                value,
-                self.registers.counters.dar,
-            ),
-            Register::Btc(k) => self.registers.table.btc = with_byte_16(
-                k,
-                value,
-                self.registers.table.btc,
-            ),
-            Register::Bar(k) => self.registers.table.bar = with_byte_32(
-                k,
-                value,
-                self.registers.table.bar,
-            ),
+            Register::Mtc(k) => {
+                let bytes = with_byte(k, value, self.registers.counters.mtc.to_be_bytes());
+                self.registers.counters.mtc = u16::from_be_bytes(bytes);
+            }
+            Register::Mar(k) => {
+                let bytes = with_byte(k, value, self.registers.counters.mar.to_be_bytes());
+                self.registers.counters.mar = u32::from_be_bytes(bytes);
+            }
+            Register::Dar(k) => {
+                let bytes = with_byte(k, value, self.registers.counters.dar.to_be_bytes());
+                self.registers.counters.dar = u32::from_be_bytes(bytes);
+            }
+            Register::Btc(k) => {
+                let bytes = with_byte(k, value, self.registers.table.btc.to_be_bytes());
+                self.registers.table.btc = u16::from_be_bytes(bytes);
+            }
+            Register::Bar(k) => {
+                let bytes = with_byte(k, value, self.registers.table.bar.to_be_bytes());
+                self.registers.table.bar = u32::from_be_bytes(bytes);
+            }
             Register::Niv => self.registers.vectors.niv = value,
             Register::Eiv => self.registers.vectors.eiv = value,
             Register::Mfc => self.registers.counters.mfc = value & 7,
@@ -92,9 +87,8 @@ impl Channel {
     fn write_half(&mut self, half: Access, value: u8)
         ensures { self.new ≡ half_written half value self.old }
     {
-        match half {
-            Access::To(register) => self.store(register, value),
-            Access::Nowhere | Access::Barred | Access::General => {}
+        if let Access::To(register) = half {
+            self.store(register, value);
         }
     }
 
@@ -102,7 +96,7 @@ impl Channel {
     pub fn write(&mut self, high: Access, high_value: u8, low: Access, low_value: u8)
         ensures { self.new ≡ written high high_value low low_value self.old }
     {
-        if bars(high) || bars(low) {
+        if high == Access::Barred || low == Access::Barred {
             self.fail(Fault::Timing);
             return;
         }
@@ -111,53 +105,19 @@ impl Channel {
     }
 }
 
-fn bars(access: Access) -> bool
-    ensures { result ≡ is_barred access }
+// Byte k of a register, from the high end; a number past the last byte means the last.
+fn byte_of<const N: usize>(k: u8, bytes: [u8; N]) -> u8
+    requires { 0 < N }
+    ensures { result ≡ slice_index bytes.entry (min k (N - 1)) }
 {
-    match access {
-        Access::Barred => true,
-        Access::Nowhere | Access::To(_) | Access::General => false,
-    }
+    bytes[usize::from(k).min(N - 1)]
 }
 
-fn byte_of_16(k: u8, word: u16) -> u8
-    ensures { result ≡ byte16 k word }
+// The register's bytes with byte k replaced.
+fn with_byte<const N: usize>(k: u8, value: u8, mut bytes: [u8; N]) -> [u8; N]
+    requires { 0 < N }
+    ensures { result ≡ slice_set bytes.entry (min k (N - 1)) value }
 {
-    match k {
-        0 => (word >> 8) as u8,
-        _ => (word % 256) as u8,
-    }
-}
-
-fn byte_of_32(k: u8, word: u32) -> u8
-    ensures { result ≡ byte32 k word }
-{
-    match k {
-        0 => (word >> 24) as u8,
-        1 => ((word >> 16) % 256) as u8,
-        2 => ((word >> 8) % 256) as u8,
-        _ => (word % 256) as u8,
-    }
-}
-
-fn with_byte_16(k: u8, value: u8, word: u16) -> u16
-    ensures { result ≡ with_byte16 k value word }
-{
-    let [high, low] = word.to_be_bytes();
-    match k {
-        0 => u16::from_be_bytes([value, low]),
-        _ => u16::from_be_bytes([high, value]),
-    }
-}
-
-fn with_byte_32(k: u8, value: u8, word: u32) -> u32
-    ensures { result ≡ with_byte32 k value word }
-{
-    let [a, b, c, d] = word.to_be_bytes();
-    match k {
-        0 => u32::from_be_bytes([value, b, c, d]),
-        1 => u32::from_be_bytes([a, value, c, d]),
-        2 => u32::from_be_bytes([a, b, value, d]),
-        _ => u32::from_be_bytes([a, b, c, value]),
-    }
+    bytes[usize::from(k).min(N - 1)] = value;
+    bytes
 }

@@ -3,7 +3,7 @@ ghost use Rattle.std.specs.Prelude.{◌≡◌};
 ghost use Rattle.channel.specs.Decode.{access_at};
 
 // A register byte of a channel. The number of a byte of a longer register counts from the high end.
-#[derive(Clone, Copy)]
+#[derive(Clone, Copy, PartialEq, Eq, Debug)]
 pub enum Register {
     Csr,
     Cer,
@@ -26,7 +26,7 @@ pub enum Register {
 
 // What an access at an offset reaches: no register, a register that is barred from writing, a register of the
 // channel, or the general control register.
-#[derive(Clone, Copy)]
+#[derive(Clone, Copy, PartialEq, Eq, Debug)]
 pub enum Access {
     Nowhere,
     Barred,

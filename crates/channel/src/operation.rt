@@ -1,7 +1,7 @@
 // Delivery of an operand, and what follows at the end of a block.
 ghost use Rattle.std.specs.Prelude.{◌≡◌};
 ghost use Rattle.registers.specs.Config.{chain_of};
-ghost use Rattle.channel.specs.Operation.{channel_completed, channel_ended, block_continued, chain_continued, block_ended, operand_settled, operand_delivered, entry_loaded, long_of, words_more, array_word, linked_word, entry_word_taken};
+ghost use Rattle.channel.specs.Operation.{channel_completed, channel_ended, block_continued, chain_continued, block_ended, operand_settled, operand_delivered, entry_loaded, long_of, words_more, entry_word_taken};
 
 use crate::state::{Channel, Phase, Words};
 use registers::fault::Fault;
@@ -58,21 +58,10 @@ impl Channel {
         ensures { self.new ≡ block_ended (chain_of self.old.registers.config) done self.old }
     {
         match self.registers.config.chain() {
-            Chain::Plain => {
-                if self.registers.control.is_continuing() {
-                    self.continue_block();
-                } else {
-                    self.complete();
-                }
-            }
-            Chain::Array => {
-                let left = u32::from(self.registers.table.btc);
-                self.continue_chain(left, done);
-            }
-            Chain::Linked => {
-                let left = self.registers.table.bar;
-                self.continue_chain(left, done);
-            }
+            Chain::Plain if self.registers.control.is_continuing() => self.continue_block(),
+            Chain::Plain => self.complete(),
+            Chain::Array => self.continue_chain(u32::from(self.registers.table.btc), done),
+            Chain::Linked => self.continue_chain(self.registers.table.bar, done),
         }
     }
 
@@ -119,36 +108,16 @@ impl Channel {
         }
     }
 
-    fn take_array_word(&mut self, word: u16, words: Words)
-        ensures { self.new ≡ array_word word words self.old }
-    {
-        match words {
-            Words::TwoWords(a, b) => self.load_entry(long_of(a, b), word, 0),
-            _ => self.phase = Phase::Fetching(more(word, words)),
-        }
-    }
-
-    fn take_linked_word(&mut self, word: u16, words: Words)
-        ensures { self.new ≡ linked_word word words self.old }
-    {
-        match words {
-            Words::FourWords(a, b, count, high) => self.load_entry(
-                long_of(a, b),
-                count,
-                long_of(high, word),
-            ),
-            _ => self.phase = Phase::Fetching(more(word, words)),
-        }
-    }
-
     // A word of an entry was read, after these words of it; the last one loads the entry.
     pub fn take_entry_word(&mut self, word: u16, words: Words)
         ensures { self.new ≡ entry_word_taken word words self.old }
     {
-        match self.registers.config.chain() {
-            Chain::Plain => self.phase = Phase::Fetching(more(word, words)),
-            Chain::Array => self.take_array_word(word, words),
-            Chain::Linked => self.take_linked_word(word, words),
+        match (self.registers.config.chain(), words) {
+            (Chain::Array, Words::TwoWords(a, b)) => self.load_entry(long_of(a, b), word, 0),
+            (Chain::Linked, Words::FourWords(a, b, count, high)) => {
+                self.load_entry(long_of(a, b), count, long_of(high, word));
+            }
+            _ => self.phase = Phase::Fetching(more(word, words)),
         }
     }
 }
@@ -156,7 +125,7 @@ impl Channel {
 fn long_of(high: u16, low: u16) -> u32
     ensures { result ≡ long_of high low }
 {
-    u32::from(high) * 65536 + u32::from(low)
+    (u32::from(high) << 16) | u32::from(low)
 }
 
 fn more(word: u16, words: Words) -> Words
@@ -167,6 +136,6 @@ fn more(word: u16, words: Words) -> Words
         Words::OneWord(a) => Words::TwoWords(a, word),
         Words::TwoWords(a, b) => Words::ThreeWords(a, b, word),
         Words::ThreeWords(a, b, c) => Words::FourWords(a, b, c, word),
-        Words::FourWords(a, b, c, d) => Words::FourWords(a, b, c, d),
+        Words::FourWords(..) => words,
     }
 }

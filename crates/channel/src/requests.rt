@@ -3,13 +3,17 @@ ghost use Rattle.std.specs.Prelude.{◌≡◌};
 ghost use Rattle.channel.specs.Requests.{is_automatic, is_requested, operand_begun, line_set, is_inside, is_counting};
 
 use crate::state::{Channel, Phase, Words};
+use registers::groups::Requests;
 
 impl Channel {
     fn is_automatic(&self) -> bool
         ensures { result ≡ is_automatic self.now }
     {
-        let reqg = self.registers.config.reqg();
-        reqg <= 1 || (reqg == 3 && self.first)
+        match self.registers.config.reqg() {
+            Requests::Automatic => true,
+            Requests::Line => false,
+            Requests::FirstAutomatic => self.first,
+        }
     }
 
     fn is_requested(&self) -> bool
@@ -52,32 +56,15 @@ impl Channel {
     pub fn is_inside(&self) -> bool
         ensures { result ≡ is_inside self.now }
     {
-        match self.phase {
-            Phase::Idle | Phase::Fetching(Words::NoWord) => false,
-            Phase::Fetching(_)
-            | Phase::Inside {
-                cycles: _,
-                held: _,
-                done: _,
-            } => true,
-        }
+        !matches!(self.phase, Phase::Idle | Phase::Fetching(Words::NoWord))
     }
 
     // Whether the channel counts in the choice.
     pub fn is_counting(&self) -> bool
         ensures { result ≡ is_counting self.now }
     {
-        if !self.registers.status.is_active() || self.registers.control.is_halted() {
-            return false;
-        }
-        match self.phase {
-            Phase::Fetching(_) => true,
-            Phase::Idle
-            | Phase::Inside {
-                cycles: _,
-                held: _,
-                done: _,
-            } => self.is_requested(),
-        }
+        self.registers.status.is_active()
+            && !self.registers.control.is_halted()
+            && (matches!(self.phase, Phase::Fetching(_)) || self.is_requested())
     }
 }

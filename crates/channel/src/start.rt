@@ -1,5 +1,6 @@
 // Starting, continuing and aborting a channel: what a write to its control register does.
-ghost use Rattle.std.specs.Prelude.{◌≡◌, drop};
+ghost use Rattle.std.specs.Prelude.{◌≡◌, take, drop};
+ghost use Rattle.std.specs.Result.{result_err};
 ghost use Rattle.registers.specs.Checks.{first_failing};
 ghost use Rattle.channel.specs.Start.{start_checks, start_fault, started, start_tried, continue_tried, abort_tried, commanded, control_written};
 
@@ -9,50 +10,50 @@ use registers::control::{CNT, SAB, STR};
 use registers::fault::Fault;
 
 impl Channel {
-    // The first check that a start fails: of the status and the settings, then of the addresses, then of the
-    // counts.
-    fn start_fault(&self, cnt: bool) -> Option<Fault>
-        ensures { result ≡ start_fault cnt self.now.registers }
+    // The checks of a start, in their order: of the status and the settings, then of the addresses, then of the counts.
+    fn check_start(&self, cnt: bool) -> Result<(), Fault>
+        ensures { result_err result ≡ start_fault cnt self.now.registers }
     {
         if self.registers.status.is_busy() {
-            return Some(Fault::Timing);
+            return Err(Fault::Timing);
         }
         if self.registers.config.is_unusable(cnt) {
-            return Some(Fault::Configuration);
+            return Err(Fault::Configuration);
         }
-        self.address_fault(cnt)
+        self.check_addresses(cnt)?;
+        self.check_counts(cnt)
     }
 
-    fn address_fault(&self, cnt: bool) -> Option<Fault>
-        ensures { result ≡ first_failing (drop 2 (start_checks cnt self.now.registers)) }
+    fn check_addresses(&self, cnt: bool) -> Result<(), Fault>
+        ensures { result_err result ≡ first_failing (take 3 (drop 2 (start_checks cnt self.now.registers))) }
     {
         let config = self.registers.config;
         if !config.is_chained() && config.is_misplaced(self.registers.counters.mar) {
-            return Some(Fault::MemoryAddress);
+            return Err(Fault::MemoryAddress);
         }
         if !config.is_single()
             && config.is_port16()
             && config.is_misplaced(self.registers.counters.dar)
         {
-            return Some(Fault::DeviceAddress);
+            return Err(Fault::DeviceAddress);
         }
         if config.is_chained() && is_odd(self.registers.table.bar) {
-            return Some(Fault::BaseAddress);
+            return Err(Fault::BaseAddress);
         }
-        self.count_fault(cnt)
+        Ok(())
     }
 
-    fn count_fault(&self, cnt: bool) -> Option<Fault>
-        ensures { result ≡ first_failing (drop 5 (start_checks cnt self.now.registers)) }
+    fn check_counts(&self, cnt: bool) -> Result<(), Fault>
+        ensures { result_err result ≡ first_failing (drop 5 (start_checks cnt self.now.registers)) }
     {
         let config = self.registers.config;
         if !config.is_chained() && self.registers.counters.mtc == 0 {
-            return Some(Fault::MemoryCount);
+            return Err(Fault::MemoryCount);
         }
         if config.is_array() && self.registers.table.btc == 0 {
-            return Some(Fault::BaseCount);
+            return Err(Fault::BaseCount);
         }
-        None
+        Ok(())
     }
 
     fn start(&mut self, cnt: bool)
@@ -75,9 +76,9 @@ impl Channel {
     fn try_start(&mut self, cnt: bool)
         ensures { self.new ≡ start_tried cnt self.old }
     {
-        match self.start_fault(cnt) {
-            Some(fault) => self.fail(fault),
-            None => self.start(cnt),
+        match self.check_start(cnt) {
+            Ok(()) => self.start(cnt),
+            Err(fault) => self.fail(fault),
         }
     }
 

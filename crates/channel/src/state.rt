@@ -3,10 +3,11 @@ ghost use Rattle.std.specs.Prelude.{◌≡◌};
 ghost use Rattle.channel.specs.State.{new_channel, channel_failed, channel_reset};
 
 use registers::fault::Fault;
-use registers::groups::{Config, Control, Counters, Registers, Status, Table, Vectors};
+use registers::groups::{Config, Registers};
 
 // The words of a table entry that were read so far.
-#[derive(Clone, Copy)]
+// Not an array: that would need a length beside it, and would hold words that mean nothing.
+#[derive(Clone, Copy, PartialEq, Eq, Debug)]
 pub enum Words {
     NoWord,
     OneWord(u16),
@@ -16,7 +17,8 @@ pub enum Words {
 }
 
 // The bytes of an operand that were read and are not yet written.
-#[derive(Clone, Copy)]
+// Not an array: that would need a length beside it, and would hold bytes that mean nothing.
+#[derive(Clone, Copy, PartialEq, Eq, Debug)]
 pub enum Held {
     NoByte,
     OneByte(u8),
@@ -26,8 +28,9 @@ pub enum Held {
 // Where a channel stands: idle; fetching an entry, with the words that it has (as many as there are, that is
 // the number of the word to come); or so many cycles into an operand, with the bytes held and whether the
 // device has signalled DONE.
-#[derive(Clone, Copy)]
+#[derive(Clone, Copy, PartialEq, Eq, Debug, Default)]
 pub enum Phase {
+    #[default]
     Idle,
     Fetching(Words),
     Inside { cycles: u8, held: Held, done: bool },
@@ -35,7 +38,7 @@ pub enum Phase {
 
 // `line` is the level of the request line, `latch` an edge of it that no operand has used yet, and `first`
 // stands from a start until the operation's first operand begins.
-#[derive(Clone, Copy)]
+#[derive(Clone, Copy, PartialEq, Eq, Debug, Default)]
 pub struct Channel {
     pub registers: Registers,
     pub phase: Phase,
@@ -48,38 +51,7 @@ impl Channel {
     pub fn new() -> Channel
         ensures { result ≡ new_channel }
     {
-        Channel {
-            registers: Registers {
-                config: Config {
-                    dcr: 0,
-                    ocr: 0,
-                    scr: 0,
-                    dfc: 0,
-                },
-                counters: Counters {
-                    mtc: 0,
-                    mar: 0,
-                    dar: 0,
-                    mfc: 0,
-                },
-                table: Table {
-                    btc: 0,
-                    bar: 0,
-                    bfc: 0,
-                },
-                status: Status { csr: 0, cer: 0 },
-                control: Control { ccr: 0 },
-                vectors: Vectors {
-                    niv: 0x0F,
-                    eiv: 0x0F,
-                    cpr: 0,
-                },
-            },
-            phase: Phase::Idle,
-            line: false,
-            latch: false,
-            first: false,
-        }
+        Channel::default()
     }
 
     // An error in this channel: what is held is dropped, and the channel goes idle.
@@ -95,15 +67,14 @@ impl Channel {
     pub fn reset(&mut self)
         ensures { self.new ≡ channel_reset self.old }
     {
-        self.registers.config.dcr = 0;
-        self.registers.config.ocr = 0;
-        self.registers.config.scr = 0;
-        self.registers.status = Status { csr: 0, cer: 0 };
-        self.registers.control = Control { ccr: 0 };
-        self.registers.vectors = Vectors {
-            niv: 0x0F,
-            eiv: 0x0F,
-            cpr: 0,
+        self.registers = Registers {
+            config: Config {
+                dfc: self.registers.config.dfc,
+                ..Config::default()
+            },
+            counters: self.registers.counters,
+            table: self.registers.table,
+            ..Registers::default()
         };
         self.phase = Phase::Idle;
         self.latch = false;

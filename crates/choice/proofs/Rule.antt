@@ -1,6 +1,5 @@
 -- Asking the channels in turn keeps the rule, and the rule leaves one answer only.
-use Rattle.std.proofs.Common.{◌≡◌, ℕ, ◌+◌, ◌<◌, ◌≤◌, Bool, true, false, cond, eqb, List, get_or, Some, None, Option, sym, refl, ap, ◌∙◌, arith, lit<}
-use Rattle.std.proofs.lemmas.Bool.{and_parts, and_from, eqb-true, eq-eqb}
+use Rattle.std.proofs.Common.{◌≡◌, ℕ, ◌+◌, ◌<◌, ◌≤◌, Bool, true, false, cond, List, Some, None, Option, sym, refl, ap, arith, lit<, rules}
 use Rattle.choice.specs.Choice.{Counts, priority_of, turn_of, Wins, Chosen, channel_at, asks, or_else, first_at, choice}
 
 module _ (counts : List Bool) (priorities : List ℕ) (last : ℕ) where
@@ -10,44 +9,28 @@ module _ (counts : List Bool) (priorities : List ℕ) (last : ℕ) where
 
   -- A channel that counts asks at its priority.
   asked : (p d : ℕ) → Counts counts d → priority_of priorities d ≡ p → asks counts priorities p d ≡ true
-  asked p d q e = and_from (get_or counts d false) (eqb (priority_of priorities d) p) q (eq-eqb (priority_of priorities d) p e)
+  asked p d q e = search rules
 
   -- At the beginning each is ahead.
   ahead_first : Ahead 0 0
-  ahead_first d h q = (omega arith, λ e. omega arith)
+  ahead_first d h q = search rules
 
   -- A channel that did not ask at its turn leaves the others ahead.
   ahead_turn : (p k : ℕ) → k < 4 → asks counts priorities p (channel_at last k) ≡ false → Ahead p k → Ahead p (k + 1)
-  ahead_turn p k h e a d hd q = ((a d hd q).0, λ same. let past : turn_of last d ≡ k → ⊥ = passed same in omega (arith, (a d hd q).1 same))
-    where
-      passed : priority_of priorities d ≡ p → turn_of last d ≡ k → ⊥
-      passed same t =
-          let i : channel_at last k ≡ d = omega arith in
-          let yes_d = asked p d q same in
-          let z : ◌≡◌ {A = ℕ} 0 1 = cc in omega arith
+  ahead_turn p k h e a d hd q = grind (arith, asked)
 
   -- After the last turn none of this priority is ahead.
   ahead_priority : (p : ℕ) → Ahead p 4 → Ahead (p + 1) 0
-  ahead_priority p a d h q =
-      let other : priority_of priorities d ≡ p → ⊥ = λ e. omega (arith, (a d h q).1 e) in
-      (omega (arith, (a d h q).0), λ e. omega arith)
+  ahead_priority p a d h q = grind arith
 
   -- The first that asks is the one to serve.
-  pub ahead_wins : (p k : ℕ) → k < 4 → (c : ℕ) → c ≡ channel_at last k → true ≡ asks counts priorities p c → Ahead p k
+  ahead_wins : (p k : ℕ) → k < 4 → (c : ℕ) → c ≡ channel_at last k → true ≡ asks counts priorities p c → Ahead p k
       → Wins counts priorities last c
-  ahead_wins p k h c i e a =
-      let both = and_parts (get_or counts c false) (eqb (priority_of priorities c) p) (sym e) in
-      let is_p = eqb-true (priority_of priorities c) p both.1 in
-      record {
-        is_channel = omega arith;
-        counts_itself = both.0;
-        none_lower = λ d hd q. omega (arith, (a d hd q).0);
-        none_earlier = λ d hd q same. omega (arith, (a d hd q).1 (same ∙ is_p));
-      }
+  ahead_wins p k h c i e a = search rules
 
   -- After the last priority none is ahead.
   ahead_none : Ahead 4 0 → Chosen counts priorities last None
-  ahead_none a d h q = omega (arith, (a d h q).0)
+  ahead_none a d h q = grind arith
 
   -- The same, as the function asks.
   ask : (p k : ℕ) → k < 4 → (b : Bool) → asks counts priorities p (channel_at last k) ≡ b → (next rest : Option ℕ)
@@ -70,11 +53,7 @@ module _ (counts : List Bool) (priorities : List ℕ) (last : ℕ) where
 
   -- Of two channels to serve neither goes before the other, so they are one.
   one_wins : (c d : ℕ) → Wins counts priorities last c → Wins counts priorities last d → c ≡ d
-  one_wins c d x y =
-      let lower = x.none_lower d y.is_channel y.counts_itself in
-      let equal : priority_of priorities d ≡ priority_of priorities c = omega (arith, y.none_lower c x.is_channel x.counts_itself) in
-      let first = x.none_earlier d y.is_channel y.counts_itself equal in
-      omega (arith, x.is_channel, y.is_channel, y.none_earlier c x.is_channel x.counts_itself (sym equal))
+  one_wins c d x y = grind arith
 
   one_chosen : (r s : Option ℕ) → Chosen counts priorities last r → Chosen counts priorities last s → r ≡ s
   one_chosen None None x y = refl

@@ -20,6 +20,7 @@ pub fn choose(counts: [bool; 4], priorities: [u8; 4], last: u8) -> Option<u8>
     ensures relation { Chosen counts priorities last result }
     ensures within { IfSome result (λ c. c < 4) }
 {
+    // Two labelled loops, the priorities and the turns of the round: a rule of this repository gives the choice this form.
     'search: {
         for priority in 0..4u8 {
             for turn in 0..4u8 {

@@ -124,6 +124,7 @@ impl Dmac {
         }
     }
 
+    // `Channel::write` takes the two halves and their bytes singly, so a struct for them would be taken apart at once.
     fn take_in(&mut self, channel: u8, high: Access, high_value: u8, low: Access, low_value: u8)
         requires { channel < 4 }
         ensures { self.new ≡ taken_in channel high high_value low low_value self.old }

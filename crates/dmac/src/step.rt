@@ -28,7 +28,7 @@ pub enum Gate {
     Fails,
 }
 
-// What the exception code makes of a cycle, if the controller holds the bus or not.
+// What the exception makes of a cycle, if the controller holds the bus or not. (A reset leaves no cycle to hinder.)
 fn gate_of(exception: Exception, bus: bool) -> Gate
     ensures { result ≡ gate_of (code_of exception) bus }
 {
@@ -69,10 +69,8 @@ impl Dmac {
         ensures value { result ≡ chosen self.now }
         ensures within { IfSome result (λ c. c < 4) }
     {
-        match self.inside() {
-            Some(channel) => Some(channel),
-            None => choose(self.counting(), self.priorities(), self.last),
-        }
+        self.inside()
+            .or_else(|| choose(self.counting(), self.priorities(), self.last))
     }
 
     // An error of a channel.

@@ -22,17 +22,6 @@ impl Refusal {
     pub fn number(self) -> u8
         ensures { result ≡ number_of self }
     {
-        match self {
-            Refusal::NoRegister => 1,
-            Refusal::OddWord => 2,
-            Refusal::NoChannel => 3,
-            Refusal::StartByWord => 4,
-            Refusal::NoException => 5,
-            Refusal::NoCommand => 6,
-            Refusal::PastTheEnd => 7,
-            Refusal::NoPlace => 8,
-            Refusal::NoInterrupt => 9,
-            Refusal::TraceFull => 10,
-        }
+        self as u8
     }
 }

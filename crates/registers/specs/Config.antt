@@ -1,7 +1,7 @@
 -- The fields of the configuration registers.
-use Rattle.std.specs.Prelude.{ℕ, ◌+◌, ◌-◌, ◌*◌, ◌/◌, ◌%◌, Bool, cond, not, ◌&&◌, ◌||◌, ◌==◌, bit_and, nat_le}
+use Rattle.std.specs.Prelude.{ℕ, ◌+◌, ◌-◌, ◌*◌, ◌/◌, ◌%◌, Bool, cond, not, ◌&&◌, ◌||◌, ◌==◌, bit_and, nat_le, Some, None, Option}
 use Rattle.registers.specs.Bits.{any, odd}
-use Rattle.registers.specs.Groups.{Config, Size, Byte, Word, Long, Chain, Plain, Array, Linked}
+use Rattle.registers.specs.Groups.{Config, Size, Byte, Word, Long, Chain, Plain, Array, Linked, Requests, Automatic, Line, FirstAutomatic, RequestMode, Burst, CycleSteal, DeviceType, Dual, DualDevice, Single, Counting, Still, Up, Down}
 
 -- DCR, device control. XRM, bits 7-6: 0 burst, 2 and 3 cycle steal, 1 none.
 abbrev pub xrm : Config → ℕ
@@ -35,6 +35,33 @@ mac k = bit_and (k.scr / 4) 3
 
 abbrev pub dac : Config → ℕ
 dac k = bit_and k.scr 3
+
+-- The fields as kinds. A value that means nothing is none.
+-- XRM: burst or cycle steal.
+abbrev pub mode_of : Config → Option RequestMode
+mode_of k = cond (xrm k == 0) (Some Burst) (cond (xrm k == 1) None (Some CycleSteal))
+
+-- DTYP: dual addressing, under which automatic requests move memory; dual addressing, always of a device; single addressing.
+abbrev pub device_type_of : Config → DeviceType
+device_type_of k = cond (dtyp k == 0) Dual (cond (dtyp k == 1) DualDevice Single)
+
+-- SIZE: byte, word or long.
+abbrev pub size_given : Config → Option Size
+size_given k =
+    cond (size_field k == 0) (Some Byte) (cond (size_field k == 1) (Some Word) (cond (size_field k == 2) (Some Long) None))
+
+-- CHAIN: no chaining, array or linked.
+abbrev pub chain_given : Config → Option Chain
+chain_given k =
+    cond (chain_field k == 0) (Some Plain) (cond (chain_field k == 2) (Some Array) (cond (chain_field k == 3) (Some Linked) None))
+
+-- REQG: automatic requests, the request line, or an operation's first operand automatic and then the line.
+abbrev pub requests_of : Config → Requests
+requests_of k = cond (nat_le (reqg k) 1) Automatic (cond (reqg k == 2) Line FirstAutomatic)
+
+-- MAC or DAC: still, up or down.
+abbrev pub counting_of : ℕ → Option Counting
+counting_of n = cond (n == 0) (Some Still) (cond (n == 1) (Some Up) (cond (n == 2) (Some Down) None))
 
 abbrev pub is_single : Config → Bool
 is_single k = nat_le 2 (dtyp k)
@@ -74,6 +101,13 @@ abbrev pub moved : ℕ → ℕ → ℕ → ℕ
 moved count n a =
     cond (count == 1) ((a + n) % 4294967296)
     (cond (count == 2) ((a + (4294967296 - n)) % 4294967296) a)
+
+-- The same by the kind: a value that means nothing leaves the address still.
+abbrev pub moved_as : Option Counting → ℕ → ℕ → ℕ
+moved_as (Some Still) n a = a
+moved_as (Some Up) n a = (a + n) % 4294967296
+moved_as (Some Down) n a = (a + (4294967296 - n)) % 4294967296
+moved_as None n a = a
 
 -- MAR after an operand: moved on by its bytes, as MAC says.
 abbrev pub next_mar : Config → ℕ → ℕ

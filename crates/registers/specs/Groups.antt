@@ -10,3 +10,15 @@ pub use Rattle.registers.specs.declared.groups.Size.{Size}
 pub use Rattle.registers.specs.declared.groups.Size.TheVariants.{Byte, Word, Long}
 pub use Rattle.registers.specs.declared.groups.Chain.{Chain}
 pub use Rattle.registers.specs.declared.groups.Chain.TheVariants.{Plain, Array, Linked}
+pub use Rattle.registers.specs.declared.groups.Requests.{Requests}
+pub use Rattle.registers.specs.declared.groups.Requests.TheVariants.{Automatic, Line, FirstAutomatic}
+pub use Rattle.registers.specs.declared.groups.RequestMode.{RequestMode}
+pub use Rattle.registers.specs.declared.groups.RequestMode.TheVariants.{Burst, CycleSteal}
+pub use Rattle.registers.specs.declared.groups.DeviceType.{DeviceType}
+pub use Rattle.registers.specs.declared.groups.DeviceType.TheVariants.{Dual, DualDevice, Single}
+pub use Rattle.registers.specs.declared.groups.Counting.{Counting}
+pub use Rattle.registers.specs.declared.groups.Counting.TheVariants.{Still, Up, Down}
+
+-- The vectors at first: $0F both, and priority 0.
+abbrev pub initial_vectors : Vectors
+initial_vectors = record { niv = 0x0F; eiv = 0x0F; cpr = 0 }

@@ -1,21 +1,30 @@
-// The fields of the configuration registers.
+// The fields of the configuration registers. Each is read by its mask and shift once, as a kind; a value that means
+// nothing is None.
 ghost use Rattle.std.specs.Prelude.{◌≡◌};
 ghost use Rattle.registers.specs.Bits.{odd};
-ghost use Rattle.registers.specs.Config.{xrm, dtyp, is_port16, size_field, chain_field, reqg, mac, dac, is_single, is_chained, is_array, is_burst, is_inward, is_device_memory, size_of, chain_of, bytes_of, moved, next_mar, stride, next_dar, is_misplaced, is_field_unused, is_single_unfit, is_dual_unfit, is_unusable};
+ghost use Rattle.registers.specs.Config.{mode_of, device_type_of, is_port16, size_given, chain_given, requests_of, counting_of, mac, dac, is_single, is_chained, is_array, is_burst, is_inward, is_device_memory, size_of, chain_of, bytes_of, moved_as, next_mar, stride, next_dar, is_misplaced, is_field_unused, is_single_unfit, is_dual_unfit, is_unusable};
 
-use crate::groups::{Chain, Config, Size};
+use crate::groups::{Chain, Config, Counting, DeviceType, RequestMode, Requests, Size};
 
 impl Config {
-    fn xrm(&self) -> u8
-        ensures { result ≡ xrm self.now }
+    fn xrm(&self) -> Option<RequestMode>
+        ensures { result ≡ mode_of self.now }
     {
-        self.dcr >> 6
+        match self.dcr >> 6 {
+            0 => Some(RequestMode::Burst),
+            1 => None,
+            _ => Some(RequestMode::CycleSteal),
+        }
     }
 
-    fn dtyp(&self) -> u8
-        ensures { result ≡ dtyp self.now }
+    fn dtyp(&self) -> DeviceType
+        ensures { result ≡ device_type_of self.now }
     {
-        (self.dcr >> 4) & 3
+        match (self.dcr >> 4) & 3 {
+            0 => DeviceType::Dual,
+            1 => DeviceType::DualDevice,
+            _ => DeviceType::Single,
+        }
     }
 
     pub fn is_port16(&self) -> bool
@@ -24,58 +33,72 @@ impl Config {
         self.dcr & 0x08 != 0
     }
 
-    fn size_field(&self) -> u8
-        ensures { result ≡ size_field self.now }
+    fn size_field(&self) -> Option<Size>
+        ensures { result ≡ size_given self.now }
     {
-        (self.ocr >> 4) & 3
+        match (self.ocr >> 4) & 3 {
+            0 => Some(Size::Byte),
+            1 => Some(Size::Word),
+            2 => Some(Size::Long),
+            _ => None,
+        }
     }
 
-    fn chain_field(&self) -> u8
-        ensures { result ≡ chain_field self.now }
+    fn chain_field(&self) -> Option<Chain>
+        ensures { result ≡ chain_given self.now }
     {
-        (self.ocr >> 2) & 3
+        match (self.ocr >> 2) & 3 {
+            0 => Some(Chain::Plain),
+            2 => Some(Chain::Array),
+            3 => Some(Chain::Linked),
+            _ => None,
+        }
     }
 
-    pub fn reqg(&self) -> u8
-        ensures { result ≡ reqg self.now }
+    pub fn reqg(&self) -> Requests
+        ensures { result ≡ requests_of self.now }
     {
-        self.ocr & 3
+        match self.ocr & 3 {
+            0 | 1 => Requests::Automatic,
+            2 => Requests::Line,
+            _ => Requests::FirstAutomatic,
+        }
     }
 
-    fn mac(&self) -> u8
-        ensures { result ≡ mac self.now }
+    fn mac(&self) -> Option<Counting>
+        ensures { result ≡ counting_of (mac self.now) }
     {
-        (self.scr >> 2) & 3
+        counting((self.scr >> 2) & 3)
     }
 
-    fn dac(&self) -> u8
-        ensures { result ≡ dac self.now }
+    fn dac(&self) -> Option<Counting>
+        ensures { result ≡ counting_of (dac self.now) }
     {
-        self.scr & 3
+        counting(self.scr & 3)
     }
 
     pub fn is_single(&self) -> bool
         ensures { result ≡ is_single self.now }
     {
-        self.dtyp() >= 2
+        self.dtyp() == DeviceType::Single
     }
 
     pub fn is_chained(&self) -> bool
         ensures { result ≡ is_chained self.now }
     {
-        self.chain_field() >= 2
+        self.chain() != Chain::Plain
     }
 
     pub fn is_array(&self) -> bool
         ensures { result ≡ is_array self.now }
     {
-        self.chain_field() == 2
+        self.chain() == Chain::Array
     }
 
     pub fn is_burst(&self) -> bool
         ensures { result ≡ is_burst self.now }
     {
-        self.xrm() == 0
+        self.xrm() == Some(RequestMode::Burst)
     }
 
     // From the device to memory.
@@ -89,27 +112,19 @@ impl Config {
     pub fn is_device_memory(&self) -> bool
         ensures { result ≡ is_device_memory self.now }
     {
-        self.dtyp() == 0 && self.reqg() <= 1
+        self.dtyp() == DeviceType::Dual && self.reqg() == Requests::Automatic
     }
 
     pub fn size(&self) -> Size
         ensures { result ≡ size_of self.now }
     {
-        match self.size_field() {
-            0 => Size::Byte,
-            1 => Size::Word,
-            _ => Size::Long,
-        }
+        self.size_field().unwrap_or(Size::Long)
     }
 
     pub fn chain(&self) -> Chain
         ensures { result ≡ chain_of self.now }
     {
-        match self.chain_field() {
-            2 => Chain::Array,
-            3 => Chain::Linked,
-            _ => Chain::Plain,
-        }
+        self.chain_field().unwrap_or(Chain::Plain)
     }
 
     fn bytes(&self) -> u32
@@ -122,16 +137,14 @@ impl Config {
         }
     }
 
+    // A port of 8 bits takes every other byte.
     fn stride(&self) -> u32
         ensures { result ≡ stride self.now }
     {
         if self.is_port16() {
-            return self.bytes();
-        }
-        match self.size() {
-            Size::Byte => 2,
-            Size::Word => 4,
-            Size::Long => 8,
+            self.bytes()
+        } else {
+            2 * self.bytes()
         }
     }
 
@@ -157,33 +170,38 @@ impl Config {
     pub fn is_misplaced(&self, address: u32) -> bool
         ensures { result ≡ is_misplaced self.now address }
     {
-        self.size_field() != 0 && is_odd(address)
+        self.size() != Size::Byte && is_odd(address)
     }
 
     fn is_field_unused(&self) -> bool
         ensures { result ≡ is_field_unused self.now }
     {
-        self.xrm() == 1
-            || self.size_field() == 3
-            || self.chain_field() == 1
-            || self.mac() == 3
-            || self.dac() == 3
+        self.xrm().is_none()
+            || self.size_field().is_none()
+            || self.chain_field().is_none()
+            || self.mac().is_none()
+            || self.dac().is_none()
     }
 
+    // Single addressing joins memory and device in one cycle, so an operand has the width of the port.
     fn is_single_unfit(&self) -> bool
         ensures { result ≡ is_single_unfit self.now }
     {
-        if !self.is_single() {
-            return false;
-        }
-        let fit = if self.is_port16() { 1 } else { 0 };
-        self.size_field() != fit
+        let fit = if self.is_port16() {
+            Size::Word
+        } else {
+            Size::Byte
+        };
+        self.is_single() && self.size() != fit
     }
 
     fn is_dual_unfit(&self) -> bool
         ensures { result ≡ is_dual_unfit self.now }
     {
-        !self.is_single() && self.is_port16() && self.size_field() == 0 && self.reqg() >= 2
+        !self.is_single()
+            && self.is_port16()
+            && self.size() == Size::Byte
+            && self.reqg() != Requests::Automatic
     }
 
     // Settings that no start takes, with or without the continue bit.
@@ -203,12 +221,24 @@ pub fn is_odd(address: u32) -> bool
     address % 2 == 1
 }
 
-fn moved(count: u8, by: u32, address: u32) -> u32
-    ensures { result ≡ moved count by address }
+// A field that says how an address counts.
+fn counting(field: u8) -> Option<Counting>
+    ensures { result ≡ counting_of field }
+{
+    match field {
+        0 => Some(Counting::Still),
+        1 => Some(Counting::Up),
+        2 => Some(Counting::Down),
+        _ => None,
+    }
+}
+
+fn moved(count: Option<Counting>, by: u32, address: u32) -> u32
+    ensures { result ≡ moved_as count by address }
 {
     match count {
-        1 => address.wrapping_add(by),
-        2 => address.wrapping_sub(by),
-        _ => address,
+        Some(Counting::Up) => address.wrapping_add(by),
+        Some(Counting::Down) => address.wrapping_sub(by),
+        Some(Counting::Still) | None => address,
     }
 }
