@@ -56,29 +56,6 @@ fn put_line<W: Write>(out: &mut W, line: &[u8]) -> io::Result<()> {
     write!(out, " = ")
 }
 
-// Takes lines up to the first that `read` takes, and prints of each whether it is; what that line sets up.
-fn set_up<T: Drop, W: Write, F: Fn(Global, &[u8]) -> Result<T, LineError>>(
-    heap: Global,
-    lines: &mut Lines<'_>,
-    out: &mut W,
-    read: F,
-) -> anyhow::Result<Option<T>>
-    requires { F.IsAlwaysCallable read }
-{
-    for line in lines {
-        put_line(out, line)?;
-        match read(heap, line) {
-            Ok(taken) => {
-                writeln!(out, "ok")?;
-                return Ok(Some(taken));
-            }
-            Err(LineError::BadLine) => writeln!(out, "bad line")?,
-            Err(LineError::NoMemory(error)) => return Err(error.into()),
-        }
-    }
-    Ok(None)
-}
-
 // Makes the call that a line is, and prints what it answers.
 fn play_line<M: Memory, W: Write>(
     heap: Global,
@@ -121,34 +98,6 @@ fn blanks(heap: Global, places: usize) -> Result<Vec<Record>, AllocError> {
     vec![in heap; BLANK; places]
 }
 
-// Plays the calls with this memory; `upper` is a function code of its upper part, if it has two.
-fn play_with<M: Memory + Drop, W: Write>(
-    heap: Global,
-    memory: M,
-    upper: Option<u8>,
-    media: [Medium; 4],
-    places: usize,
-    lines: Lines<'_>,
-    out: &mut W,
-) -> anyhow::Result<()> {
-    let mut slots = blanks(heap, places)?;
-    let trace = Queue::new(&mut slots);
-    let [mut first, mut second, mut third, mut fourth] = media;
-    let devices = four_lent(&mut first, &mut second, &mut third, &mut fourth);
-    let around = Surroundings { memory, devices };
-    let mut player = Player {
-        dmac: Dmac::new(),
-        around,
-        upper,
-        trace,
-        moved: blanks(heap, places)?,
-    };
-    for line in lines {
-        play_line(heap, &mut player, line, out)?;
-    }
-    Ok(())
-}
-
 // A memory over these bytes.
 fn flat<'a>(bytes: &'a mut [u8]) -> anyhow::Result<Flat<'a>> {
     match Flat::new(bytes) {
@@ -157,40 +106,98 @@ fn flat<'a>(bytes: &'a mut [u8]) -> anyhow::Result<Flat<'a>> {
     }
 }
 
-// Plays a sequence: first the lines that set up, then the calls.
-fn play<W: Write>(heap: Global, input: &[u8], out: &mut W) -> anyhow::Result<()> {
-    let mut lines = Lines::of(input);
-    let Some(contents) = set_up(heap, &mut lines, out, memory)? else {
-        return Ok(());
-    };
-    let Some(media) = set_up(heap, &mut lines, out, bank)? else {
-        return Ok(());
-    };
-    let Some(places) = set_up(heap, &mut lines, out, trace)? else {
-        return Ok(());
-    };
-    match contents {
-        Contents::Flat(mut bytes) => {
-            play_with(heap, flat(&mut bytes)?, None, media, places, lines, out)
+// A sequence that is played: where lists are made, the lines that are left, and where the answers go.
+#[derive(Drop)]
+struct Sequence<'a, W: Write + Drop> {
+    heap: Global,
+    lines: Lines<'a>,
+    out: W,
+}
+
+impl<'a, W: Write + Drop> Sequence<'a, W> {
+    // Takes lines up to the first that `read` takes, and prints of each whether it is; what that line sets up.
+    fn set_up<T: Drop, F: Fn(Global, &[u8]) -> Result<T, LineError>>(
+        &mut self,
+        read: F,
+    ) -> anyhow::Result<Option<T>>
+        requires { F.IsAlwaysCallable read }
+    {
+        for line in &mut self.lines {
+            put_line(&mut self.out, line)?;
+            match read(self.heap, line) {
+                Ok(taken) => {
+                    writeln!(self.out, "ok")?;
+                    return Ok(Some(taken));
+                }
+                Err(LineError::BadLine) => writeln!(self.out, "bad line")?,
+                Err(LineError::NoMemory(error)) => return Err(error.into()),
+            }
         }
-        Contents::Split {
-            mut upper,
-            mut lower,
-        } => {
-            let split = Split {
-                upper: flat(&mut upper)?,
-                lower: flat(&mut lower)?,
-            };
-            play_with(heap, split, Some(5), media, places, lines, out)
+        Ok(None)
+    }
+
+    // Plays the calls with this memory; `upper` is a function code of its upper part, if it has two.
+    fn play_with<M: Memory + Drop>(
+        &mut self,
+        memory: M,
+        upper: Option<u8>,
+        media: [Medium; 4],
+        places: usize,
+    ) -> anyhow::Result<()> {
+        let mut slots = blanks(self.heap, places)?;
+        let trace = Queue::new(&mut slots);
+        let [mut first, mut second, mut third, mut fourth] = media;
+        let devices = four_lent(&mut first, &mut second, &mut third, &mut fourth);
+        let around = Surroundings { memory, devices };
+        let mut player = Player {
+            dmac: Dmac::new(),
+            around,
+            upper,
+            trace,
+            moved: blanks(self.heap, places)?,
+        };
+        for line in &mut self.lines {
+            play_line(self.heap, &mut player, line, &mut self.out)?;
+        }
+        Ok(())
+    }
+
+    // Plays the sequence: first the lines that set up, then the calls.
+    fn play(&mut self) -> anyhow::Result<()> {
+        let Some(contents) = self.set_up(memory)? else {
+            return Ok(());
+        };
+        let Some(media) = self.set_up(bank)? else {
+            return Ok(());
+        };
+        let Some(places) = self.set_up(trace)? else {
+            return Ok(());
+        };
+        match contents {
+            Contents::Flat(mut bytes) => self.play_with(flat(&mut bytes)?, None, media, places),
+            Contents::Split {
+                mut upper,
+                mut lower,
+            } => {
+                let split = Split {
+                    upper: flat(&mut upper)?,
+                    lower: flat(&mut lower)?,
+                };
+                self.play_with(split, Some(5), media, places)
+            }
         }
     }
 }
 
 // Plays a sequence, and writes what is left of the answers.
 fn replay(rt: &HostRuntime, input: &[u8]) -> anyhow::Result<()> {
-    let mut out = BufWriter::new(rt.alloc(), io::writer(rt))?;
-    play(rt.alloc(), input, &mut out)?;
-    out.flush()?;
+    let mut sequence = Sequence {
+        heap: rt.alloc(),
+        lines: Lines::of(input),
+        out: BufWriter::new(rt.alloc(), io::writer(rt))?,
+    };
+    sequence.play()?;
+    sequence.out.flush()?;
     Ok(())
 }
 
