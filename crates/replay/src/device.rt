@@ -3,6 +3,7 @@ ghost use Rattle.replay.specs.Device.{meaning};
 
 use devices::bank::DeviceBank;
 
+// It is an enum and no `dyn`, since a question shows what a tape has left and what a printer keeps, which no bank tells.
 #[derive(Drop)]
 pub enum Device<A, B> {
     Tape(A),

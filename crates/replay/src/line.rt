@@ -1,9 +1,9 @@
 // The calls and questions that a line can be.
 use crate::fields::{
-    Fields, channel, decimal, decimal_byte, decimal_word, flag, function_code, hex, hex_byte,
-    hex_of, hex_word,
+    LineError, decimal, decimal_below, decimal_byte, fields_of, flag, hex, hex_of,
 };
 use audit::call::Call;
+use std::alloc::Global;
 
 // A line is a call, the emptying of the trace, or a question.
 #[derive(Clone, Copy)]
@@ -22,162 +22,55 @@ pub enum Question {
     Device { channel: u8 },
 }
 
-// The first words of the lines.
-#[derive(Clone, Copy)]
-enum Name {
-    ReadByte,
-    ReadWord,
-    WriteByte,
-    WriteWord,
-    Request,
-    Store,
-    Step,
-    Run,
-    Empty,
-    Registers,
-    General,
-    Peek,
-    Bytes,
-    Device,
-}
-
-const NAMES: [(&'static [u8], Name); 14] = [
-    (b"rb", Name::ReadByte),
-    (b"rw", Name::ReadWord),
-    (b"wb", Name::WriteByte),
-    (b"ww", Name::WriteWord),
-    (b"req", Name::Request),
-    (b"store", Name::Store),
-    (b"step", Name::Step),
-    (b"run", Name::Run),
-    (b"empty", Name::Empty),
-    (b"regs", Name::Registers),
-    (b"gcr", Name::General),
-    (b"peek", Name::Peek),
-    (b"mem?", Name::Bytes),
-    (b"dev?", Name::Device),
-];
-
-fn name_of(word: &[u8]) -> Option<Name> {
-    for (text, name) in NAMES.iter() {
-        if *text == word {
-            return Some(*name);
-        }
-    }
-    None
-}
-
-fn read_byte(fields: &mut Fields<'_>) -> Option<Line> {
-    let offset = hex_byte(fields.next())?;
-    Some(Line::Make(Call::ReadByte(offset)))
-}
-
-fn read_word(fields: &mut Fields<'_>) -> Option<Line> {
-    let offset = hex_byte(fields.next())?;
-    Some(Line::Make(Call::ReadWord(offset)))
-}
-
-fn write_byte(fields: &mut Fields<'_>) -> Option<Line> {
-    match (hex_byte(fields.next()), hex_byte(fields.next())) {
-        (Some(offset), Some(value)) => Some(Line::Make(Call::WriteByte(offset, value))),
-        _ => None,
+fn call_of(fields: &[&[u8]]) -> Result<Call, LineError> {
+    match fields {
+        [b"rb", offset] => Ok(Call::ReadByte(hex_of(offset, 2)?)),
+        [b"rw", offset] => Ok(Call::ReadWord(hex_of(offset, 2)?)),
+        [b"wb", offset, value] => Ok(Call::WriteByte(hex_of(offset, 2)?, hex_of(value, 2)?)),
+        [b"ww", offset, value] => Ok(Call::WriteWord(hex_of(offset, 2)?, hex_of(value, 4)?)),
+        [b"req", channel, on] => Ok(Call::SetLine(decimal_byte(channel)?, flag(on)?)),
+        [b"store", code, address, byte] => Ok(Call::Store(
+            decimal_byte(code)?,
+            hex_of(address, 6)?,
+            hex_of(byte, 2)?,
+        )),
+        [b"step", exception, done] => Ok(Call::Step(decimal_byte(exception)?, flag(done)?)),
+        [b"run", steps] => Ok(Call::Run(decimal(steps)?)),
+        _ => Err(LineError::BadLine),
     }
 }
 
-fn write_word(fields: &mut Fields<'_>) -> Option<Line> {
-    match (hex_byte(fields.next()), hex_word(fields.next())) {
-        (Some(offset), Some(value)) => Some(Line::Make(Call::WriteWord(offset, value))),
-        _ => None,
-    }
-}
-
-fn request(fields: &mut Fields<'_>) -> Option<Line> {
-    match (decimal_byte(fields.next()), flag(fields.next())) {
-        (Some(channel), Some(on)) => Some(Line::Make(Call::SetLine(channel, on))),
-        _ => None,
-    }
-}
-
-fn store(fields: &mut Fields<'_>) -> Option<Line> {
-    let code = decimal_byte(fields.next());
-    let address = hex_of(fields.next(), 6);
-    match (code, address, hex_byte(fields.next())) {
-        (Some(code), Some(address), Some(byte)) => {
-            Some(Line::Make(Call::Store(code, address, byte)))
-        }
-        _ => None,
-    }
-}
-
-fn step(fields: &mut Fields<'_>) -> Option<Line> {
-    match (decimal_byte(fields.next()), flag(fields.next())) {
-        (Some(exception), Some(done)) => Some(Line::Make(Call::Step(exception, done))),
-        _ => None,
-    }
-}
-
-fn run(fields: &mut Fields<'_>) -> Option<Line> {
-    let steps = decimal_word(fields.next())?;
-    Some(Line::Make(Call::Run(steps)))
-}
-
-fn empty(fields: &mut Fields<'_>) -> Option<Line> {
-    let count = decimal(fields.next())?;
-    Some(Line::Empty { count })
-}
-
-fn registers(fields: &mut Fields<'_>) -> Option<Line> {
-    let channel = channel(fields.next())?;
-    Some(Line::Ask(Question::Registers { channel }))
-}
-
-fn peek(fields: &mut Fields<'_>) -> Option<Line> {
-    let code = function_code(fields.next());
-    let address = hex_of(fields.next(), 6);
-    match (code, address, hex(fields.next())) {
-        (Some(code), Some(address), Some(count)) => Some(Line::Ask(Question::Peek {
-            code,
-            address,
-            count,
-        })),
-        _ => None,
-    }
-}
-
-fn bytes(fields: &mut Fields<'_>) -> Option<Line> {
-    let upper = flag(fields.next())?;
-    Some(Line::Ask(Question::Bytes { upper }))
-}
-
-fn device(fields: &mut Fields<'_>) -> Option<Line> {
-    let channel = channel(fields.next())?;
-    Some(Line::Ask(Question::Device { channel }))
-}
-
-// The line that begins with a name.
-fn line_of(name: Name, fields: &mut Fields<'_>) -> Option<Line> {
-    match name {
-        Name::ReadByte => read_byte(fields),
-        Name::ReadWord => read_word(fields),
-        Name::WriteByte => write_byte(fields),
-        Name::WriteWord => write_word(fields),
-        Name::Request => request(fields),
-        Name::Store => store(fields),
-        Name::Step => step(fields),
-        Name::Run => run(fields),
-        Name::Empty => empty(fields),
-        Name::Registers => registers(fields),
-        Name::General => Some(Line::Ask(Question::General)),
-        Name::Peek => peek(fields),
-        Name::Bytes => bytes(fields),
-        Name::Device => device(fields),
+fn question_of(fields: &[&[u8]]) -> Result<Question, LineError> {
+    match fields {
+        [b"regs", channel] => Ok(Question::Registers {
+            channel: decimal_below(channel, 4)?,
+        }),
+        [b"gcr"] => Ok(Question::General),
+        [b"peek", code, address, count] => Ok(Question::Peek {
+            code: decimal_below(code, 8)?,
+            address: hex_of(address, 6)?,
+            count: hex(count)?,
+        }),
+        [b"mem?", upper] => Ok(Question::Bytes {
+            upper: flag(upper)?,
+        }),
+        [b"dev?", channel] => Ok(Question::Device {
+            channel: decimal_below(channel, 4)?,
+        }),
+        _ => Err(LineError::BadLine),
     }
 }
 
 // What a line says.
-pub fn parse(text: &[u8]) -> Option<Line> {
-    let mut fields = Fields::of(text);
-    let name = name_of(fields.next()?)?;
-    let line = line_of(name, &mut fields);
-    if fields.is_done() { line } else { None }
+pub fn parse(heap: Global, text: &[u8]) -> Result<Line, LineError> {
+    let fields = fields_of(heap, text)?;
+    match fields.as_slice() {
+        [b"empty", count] => Ok(Line::Empty {
+            count: decimal(count)?,
+        }),
+        [b"regs" | b"gcr" | b"peek" | b"mem?" | b"dev?", ..] => {
+            Ok(Line::Ask(question_of(&fields)?))
+        }
+        _ => Ok(Line::Make(call_of(&fields)?)),
+    }
 }

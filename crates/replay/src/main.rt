@@ -20,30 +20,27 @@ mod print;
 mod setup;
 
 use crate::device::Device;
+use crate::fields::LineError;
 use crate::line::parse;
-use crate::player::{Player, Single, Two};
-use crate::setup::{Contents, Media, Medium, Setup};
+use crate::player::{Four, Player, Single};
+use crate::setup::{Contents, Medium, bank, memory, trace};
 use anyhow::anyhow;
 use bus::flat::Flat;
 use bus::memory::Memory;
 use bus::split::Split;
 use cycle::record::Record;
-use devices::bank::DeviceBank;
+use cycle::surroundings::Surroundings;
 use devices::pair::Pair;
 use devices::printer::Printer;
 use devices::tape::Tape;
 use dmac::controller::Dmac;
 use queue::Queue;
 use registers::fault::Fault;
-use script::lines::{after_line, first_line};
-use script::text::put_text;
+use script::lines::Lines;
 use std::alloc::{AllocError, Global};
-use std::env;
 use std::fs::File;
-use std::io::{Read, Write};
-
-// So many bytes of answers are written at once.
-const PAGE: usize = 65536;
+use std::io::{BufWriter, Read, Write};
+use std::{env, io};
 
 // What a place of a trace holds before a record is put there.
 const BLANK: Record = Record::Error {
@@ -53,94 +50,47 @@ const BLANK: Record = Record::Error {
 
 const TOO_LARGE: &str = "the memory is too large";
 
-// Ends the line that `out` ends with, and writes what it holds if that is enough.
-fn end_line(rt: &HostRuntime, out: &mut Vec<u8>) -> anyhow::Result<()> {
-    put_text(out, b"\n")?;
-    if out.len() >= PAGE {
-        rt.stdout().write_all(out)?;
-        out.clear();
-    }
-    Ok(())
-}
-
-// Prints a line, and what separates it from its answer.
-fn begin_line(out: &mut Vec<u8>, line: &[u8]) -> Result<(), AllocError> {
-    put_text(out, line)?;
-    put_text(out, b" = ")
-}
-
-// Takes a set-up line, and prints whether it is taken.
-fn set_up_line(
-    rt: &HostRuntime,
-    line: &[u8],
-    setup: &mut Setup,
-    out: &mut Vec<u8>,
-) -> anyhow::Result<()> {
-    begin_line(out, line)?;
-    let taken = setup.take(rt.alloc(), line)?;
-    put_text(out, if taken { b"ok" } else { b"bad line" })?;
-    end_line(rt, out)
-}
-
-// Takes the set-up lines, up to the one that completes it; the lines after that.
-fn set_up<'a>(
-    rt: &HostRuntime,
-    lines: &'a [u8],
-    setup: &mut Setup,
-    out: &mut Vec<u8>,
-) -> anyhow::Result<&'a [u8]> {
-    let mut rest = lines;
-    while !rest.is_empty() && !setup.is_complete() {
-        let line = first_line(rest);
-        set_up_line(rt, line, setup, out)?;
-        rest = after_line(rest, line.len());
-    }
-    Ok(rest)
+// Prints a line, which may be any bytes, and what separates it from its answer.
+fn put_line<W: Write>(out: &mut W, line: &[u8]) -> io::Result<()> {
+    out.write_all(line)?;
+    write!(out, " = ")
 }
 
 // Makes the call that a line is, and prints what it answers.
-fn play_line<M: Memory>(
+fn play_line<M: Memory, W: Write>(
+    heap: Global,
     player: &mut Player<'_, M>,
     line: &[u8],
-    out: &mut Vec<u8>,
-) -> Result<(), AllocError> {
-    begin_line(out, line)?;
-    match parse(line) {
-        Some(call) => player.play(call, out),
-        None => put_text(out, b"bad line"),
-    }
-}
-
-// Plays the calls.
-fn play<M: Memory>(
-    rt: &HostRuntime,
-    player: &mut Player<'_, M>,
-    lines: &[u8],
-    out: &mut Vec<u8>,
+    out: &mut W,
 ) -> anyhow::Result<()> {
-    let mut rest = lines;
-    while !rest.is_empty() {
-        let line = first_line(rest);
-        play_line(player, line, out)?;
-        end_line(rt, out)?;
-        rest = after_line(rest, line.len());
+    put_line(out, line)?;
+    match parse(heap, line) {
+        Ok(call) => player.play(call, out)?,
+        Err(LineError::BadLine) => write!(out, "bad line")?,
+        Err(LineError::NoMemory(error)) => return Err(error.into()),
     }
+    writeln!(out)?;
     Ok(())
 }
 
 // The device of a channel over what it reads or keeps.
 fn lent<'a>(channel: u8, medium: &'a mut Medium) -> Single<'a> {
-    if medium.is_tape {
-        Device::Tape(Tape::new(channel, &medium.bytes))
-    } else {
-        Device::Printer(Printer::new(channel, &mut medium.bytes))
+    match medium {
+        Medium::Tape(bytes) => Device::Tape(Tape::new(channel, bytes)),
+        Medium::Printer(places) => Device::Printer(Printer::new(channel, places)),
     }
 }
 
-// The devices of two channels.
-fn two_lent<'a>(numbers: (u8, u8), first: &'a mut Medium, second: &'a mut Medium) -> Two<'a> {
-    let (low, high) = numbers;
-    Pair::new(high, lent(low, first), lent(high, second))
+// The devices of the four channels.
+fn four_lent<'a>(
+    first: &'a mut Medium,
+    second: &'a mut Medium,
+    third: &'a mut Medium,
+    fourth: &'a mut Medium,
+) -> Four<'a> {
+    let lower = Pair::new(1, lent(0, first), lent(1, second));
+    let upper = Pair::new(3, lent(2, third), lent(3, fourth));
+    Pair::new(2, lower, upper)
 }
 
 // The places of a trace.
@@ -148,85 +98,106 @@ fn blanks(heap: Global, places: usize) -> Result<Vec<Record>, AllocError> {
     vec![in heap; BLANK; places]
 }
 
-// Plays the calls with this memory.
-fn play_with<M: Memory + Drop>(
-    rt: &HostRuntime,
-    memory: M,
-    split: bool,
-    media: &mut Media,
-    places: usize,
-    lines: &[u8],
-    out: &mut Vec<u8>,
-) -> anyhow::Result<()> {
-    let mut slots = blanks(rt.alloc(), places)?;
-    let moved = blanks(rt.alloc(), places)?;
-    let lower = two_lent((0, 1), &mut media.lower.first, &mut media.lower.second);
-    let upper = two_lent((2, 3), &mut media.upper.first, &mut media.upper.second);
-    let mut player = Player {
-        dmac: Dmac::new(),
-        memory,
-        split,
-        devices: Pair::new(2, lower, upper),
-        trace: Queue::new(&mut slots),
-        moved,
-    };
-    play(rt, &mut player, lines, out)
-}
-
-// Plays the calls with a memory over these bytes.
-fn play_over(
-    rt: &HostRuntime,
-    contents: &mut Contents,
-    media: &mut Media,
-    places: usize,
-    lines: &[u8],
-    out: &mut Vec<u8>,
-) -> anyhow::Result<()> {
-    let Ok(memory) = Flat::new(&mut contents.bytes) else {
-        return Err(anyhow!(TOO_LARGE));
-    };
-    match &mut contents.lower {
-        None => play_with(rt, memory, false, media, places, lines, out),
-        Some(bytes) => {
-            let Ok(lower) = Flat::new(bytes) else {
-                return Err(anyhow!(TOO_LARGE));
-            };
-            let split = Split {
-                upper: memory,
-                lower,
-            };
-            play_with(rt, split, true, media, places, lines, out)
-        }
+// A memory over these bytes.
+fn flat<'a>(bytes: &'a mut [u8]) -> anyhow::Result<Flat<'a>> {
+    match Flat::new(bytes) {
+        Ok(memory) => Ok(memory),
+        Err(_) => Err(anyhow!(TOO_LARGE)),
     }
 }
 
-// Plays the calls, if the set-up is complete.
-fn play_set_up(
-    rt: &HostRuntime,
-    setup: &mut Setup,
-    lines: &[u8],
-    out: &mut Vec<u8>,
-) -> anyhow::Result<()> {
-    match (&mut setup.memory, &mut setup.media, setup.places) {
-        (Some(contents), Some(media), Some(places)) => {
-            play_over(rt, contents, media, places, lines, out)
-        }
-        _ => Ok(()),
-    }
+// A sequence that is played: where lists are made, the lines that are left, and where the answers go.
+#[derive(Drop)]
+struct Sequence<'a, W: Write + Drop> {
+    heap: Global,
+    lines: Lines<'a>,
+    out: W,
 }
 
-// Plays a sequence.
-fn replay_into(rt: &HostRuntime, input: &[u8], out: &mut Vec<u8>) -> anyhow::Result<()> {
-    let mut setup = Setup::new();
-    let rest = set_up(rt, input, &mut setup, out)?;
-    play_set_up(rt, &mut setup, rest, out)
+impl<'a, W: Write + Drop> Sequence<'a, W> {
+    // Takes lines up to the first that `read` takes, and prints of each whether it is; what that line sets up.
+    fn set_up<T: Drop, F: Fn(Global, &[u8]) -> Result<T, LineError>>(
+        &mut self,
+        read: F,
+    ) -> anyhow::Result<Option<T>>
+        requires { F.IsAlwaysCallable read }
+    {
+        for line in &mut self.lines {
+            put_line(&mut self.out, line)?;
+            match read(self.heap, line) {
+                Ok(taken) => {
+                    writeln!(self.out, "ok")?;
+                    return Ok(Some(taken));
+                }
+                Err(LineError::BadLine) => writeln!(self.out, "bad line")?,
+                Err(LineError::NoMemory(error)) => return Err(error.into()),
+            }
+        }
+        Ok(None)
+    }
+
+    // Plays the calls with this memory; `upper` is a function code of its upper part, if it has two.
+    fn play_with<M: Memory + Drop>(
+        &mut self,
+        memory: M,
+        upper: Option<u8>,
+        media: [Medium; 4],
+        places: usize,
+    ) -> anyhow::Result<()> {
+        let mut slots = blanks(self.heap, places)?;
+        let trace = Queue::new(&mut slots);
+        let [mut first, mut second, mut third, mut fourth] = media;
+        let devices = four_lent(&mut first, &mut second, &mut third, &mut fourth);
+        let around = Surroundings { memory, devices };
+        let mut player = Player {
+            dmac: Dmac::new(),
+            around,
+            upper,
+            trace,
+            moved: blanks(self.heap, places)?,
+        };
+        for line in &mut self.lines {
+            play_line(self.heap, &mut player, line, &mut self.out)?;
+        }
+        Ok(())
+    }
+
+    // Plays the sequence: first the lines that set up, then the calls.
+    fn play(&mut self) -> anyhow::Result<()> {
+        let Some(contents) = self.set_up(memory)? else {
+            return Ok(());
+        };
+        let Some(media) = self.set_up(bank)? else {
+            return Ok(());
+        };
+        let Some(places) = self.set_up(trace)? else {
+            return Ok(());
+        };
+        match contents {
+            Contents::Flat(mut bytes) => self.play_with(flat(&mut bytes)?, None, media, places),
+            Contents::Split {
+                mut upper,
+                mut lower,
+            } => {
+                let split = Split {
+                    upper: flat(&mut upper)?,
+                    lower: flat(&mut lower)?,
+                };
+                self.play_with(split, Some(5), media, places)
+            }
+        }
+    }
 }
 
 // Plays a sequence, and writes what is left of the answers.
 fn replay(rt: &HostRuntime, input: &[u8]) -> anyhow::Result<()> {
-    let mut out = Vec::new(rt.alloc());
-    replay_into(rt, input, &mut out)?;
-    rt.stdout().write_all(&out)?;
+    let mut sequence = Sequence {
+        heap: rt.alloc(),
+        lines: Lines::of(input),
+        out: BufWriter::new(rt.alloc(), io::writer(rt))?,
+    };
+    sequence.play()?;
+    sequence.out.flush()?;
     Ok(())
 }
 
@@ -247,12 +218,14 @@ fn replay_named(rt: &HostRuntime, name: &str) -> anyhow::Result<()> {
 }
 
 fn replay_all(rt: &HostRuntime) -> anyhow::Result<()> {
-    let mut named = false;
-    for name in env::args(rt)?.skip(1) {
-        named = true;
+    let mut names = env::args(rt)?.skip(1).peekable();
+    if names.peek().is_none() {
+        return replay_named(rt, "-");
+    }
+    for name in names {
         replay_named(rt, name.as_str())?;
     }
-    if named { Ok(()) } else { replay_named(rt, "-") }
+    Ok(())
 }
 
 fn main(rt: HostRuntime) -> anyhow::Result<()> {

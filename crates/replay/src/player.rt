@@ -1,18 +1,19 @@
 // A controller with its memory, its devices and its trace, and what it answers to each line.
 use crate::device::Device;
 use crate::line::{Line, Question};
-use crate::print::{put_bytes, put_moved, put_number, put_read_byte, put_records, put_reply};
-use audit::call::Call;
+use crate::print::Shown;
+use audit::call::{Call, Reply};
 use audit::perform::perform;
-use bus::memory::Memory;
+use bus::memory::{Memory, Place};
 use cycle::record::Record;
+use cycle::surroundings::Surroundings;
 use devices::pair::Pair;
 use devices::printer::Printer;
 use devices::tape::Tape;
 use dmac::controller::Dmac;
 use queue::{Queue, move_oldest};
-use script::text::{put_pair, put_text};
-use std::alloc::AllocError;
+use std::io;
+use std::io::Write;
 
 pub type Single<'a> = Device<Tape<'a>, Printer<'a>>;
 
@@ -45,23 +46,26 @@ const SHOWN: [(u8, u8); 17] = [
     (0x2D, 1),
 ];
 
+// A function code of a memory's lower part, or of its only one.
+const LOWER: u8 = 1;
+
 // No address is at or above this one.
 const PLACES: u32 = 0x1000000;
 
-// `split` says whether the memory has two parts; `moved` has a place for each record that the trace can hold.
+// `upper` is a function code of the memory's upper part, if it has two; `moved` has a place for each record that the trace
+// can hold.
 #[derive(Drop)]
 pub struct Player<'a, M: Memory> {
     pub dmac: Dmac,
-    pub memory: M,
-    pub split: bool,
-    pub devices: Four<'a>,
+    pub around: Surroundings<M, Four<'a>>,
+    pub upper: Option<u8>,
     pub trace: Queue<'a, Record>,
     pub moved: Vec<Record>,
 }
 
 impl<'a, M: Memory> Player<'a, M> {
     // Does what a line says, and prints the answer.
-    pub fn play(&mut self, line: Line, out: &mut Vec<u8>) -> Result<(), AllocError> {
+    pub fn play<W: Write>(&mut self, line: Line, out: &mut W) -> io::Result<()> {
         match line {
             Line::Make(call) => self.make(call, out),
             Line::Empty { count } => self.empty(count as usize, out),
@@ -70,46 +74,47 @@ impl<'a, M: Memory> Player<'a, M> {
     }
 
     // Makes a call, and prints what it replies.
-    fn make(&mut self, call: Call, out: &mut Vec<u8>) -> Result<(), AllocError> {
-        let reply = perform(
-            &mut self.dmac,
-            &mut self.memory,
-            &mut self.devices,
-            &mut self.trace,
-            call,
-        );
-        put_reply(out, reply)
+    fn make<W: Write>(&mut self, call: Call, out: &mut W) -> io::Result<()> {
+        let reply = perform(&mut self.dmac, &mut self.around, &mut self.trace, call);
+        write!(out, "{}", Shown(reply))
     }
 
     // Answers a question.
-    fn tell(&self, question: Question, out: &mut Vec<u8>) -> Result<(), AllocError> {
+    fn tell<W: Write>(&self, question: Question, out: &mut W) -> io::Result<()> {
         match question {
             Question::Registers { channel } => self.registers(channel, out),
-            Question::General => put_read_byte(out, self.dmac.read_byte(GENERAL)),
+            Question::General => self.register(GENERAL, 1, out),
             Question::Peek {
                 code,
                 address,
                 count,
             } => self.peek(code, address, count, out),
-            Question::Bytes { upper: true } if !self.split => put_text(out, b"bad line"),
-            Question::Bytes { upper: true } => self.all_bytes(5, out),
-            Question::Bytes { upper: false } => self.all_bytes(1, out),
+            Question::Bytes { upper: false } => self.all_bytes(LOWER, out),
+            Question::Bytes { upper: true } => match self.upper {
+                Some(code) => self.all_bytes(code, out),
+                None => write!(out, "bad line"),
+            },
             Question::Device { channel } => self.device(channel, out),
         }
     }
 
-    // Moves the oldest records out of the trace, and prints them.
-    fn empty(&mut self, count: usize, out: &mut Vec<u8>) -> Result<(), AllocError> {
+    // Moves the oldest records out of the trace, and prints them with a semicolon between two.
+    fn empty<W: Write>(&mut self, count: usize, out: &mut W) -> io::Result<()> {
         let moved = move_oldest(&mut self.trace, &mut self.moved, count);
-        put_moved(out, moved)?;
-        put_records(out, &self.moved, moved)
+        write!(out, "moved {moved}:")?;
+        for (index, told) in self.moved.iter().take(moved).enumerate() {
+            let before = if index == 0 { " " } else { "; " };
+            write!(out, "{before}{}", Shown(*told))?;
+        }
+        Ok(())
     }
 
-    fn registers(&self, channel: u8, out: &mut Vec<u8>) -> Result<(), AllocError> {
+    // The registers of a channel, with a blank between two.
+    fn registers<W: Write>(&self, channel: u8, out: &mut W) -> io::Result<()> {
         let base = channel.wrapping_mul(64);
         for (index, (offset, width)) in SHOWN.iter().enumerate() {
             if index > 0 {
-                put_text(out, b" ")?;
+                write!(out, " ")?;
             }
             self.register(base.wrapping_add(*offset), *width, out)?;
         }
@@ -117,82 +122,69 @@ impl<'a, M: Memory> Player<'a, M> {
     }
 
     // A register of so many bytes.
-    fn register(&self, offset: u8, width: u8, out: &mut Vec<u8>) -> Result<(), AllocError> {
+    fn register<W: Write>(&self, offset: u8, width: u8, out: &mut W) -> io::Result<()> {
         for byte in 0..width {
-            put_read_byte(out, self.dmac.read_byte(offset.wrapping_add(byte)))?;
+            let read = self.dmac.read_byte(offset.wrapping_add(byte));
+            write!(out, "{}", Shown(read.map(Reply::Byte)))?;
         }
         Ok(())
     }
 
     // The bytes from a place on; two hyphens for one that is not answered.
-    fn peek(
-        &self,
-        code: u8,
-        address: u32,
-        count: u32,
-        out: &mut Vec<u8>,
-    ) -> Result<(), AllocError> {
+    fn peek<W: Write>(&self, code: u8, address: u32, count: u32, out: &mut W) -> io::Result<()> {
         for index in 0..count.min(PLACES) {
-            match self.memory.read(code, address.wrapping_add(index)) {
-                Some(byte) => put_pair(out, byte)?,
-                None => put_text(out, b"--")?,
+            let place = Place {
+                code,
+                address: address.wrapping_add(index),
+            };
+            match self.around.memory.read(place) {
+                Some(byte) => write!(out, "{byte:02X}")?,
+                None => write!(out, "--")?,
             }
         }
         Ok(())
     }
 
     // All bytes that a function code names.
-    fn all_bytes(&self, code: u8, out: &mut Vec<u8>) -> Result<(), AllocError> {
+    fn all_bytes<W: Write>(&self, code: u8, out: &mut W) -> io::Result<()> {
         for address in 0..PLACES {
-            match self.memory.read(code, address) {
-                Some(byte) => put_pair(out, byte)?,
-                None => return Ok(()),
-            }
+            let Some(byte) = self.around.memory.read(Place { code, address }) else {
+                break;
+            };
+            write!(out, "{byte:02X}")?;
         }
         Ok(())
     }
 
-    // The device of a channel.
-    fn device(&self, channel: u8, out: &mut Vec<u8>) -> Result<(), AllocError> {
+    // What waits in the device of a channel, what it keeps and how many places are free.
+    fn device<W: Write>(&self, channel: u8, out: &mut W) -> io::Result<()> {
+        match self.device_of(channel) {
+            Device::Tape(tape) => write!(out, "{} / - / 0", Shown(tape.rest)),
+            Device::Printer(printer) => {
+                write!(out, "- / ")?;
+                put_page(&printer.page, out)
+            }
+        }
+    }
+
+    fn device_of(&self, channel: u8) -> &Single<'a> {
+        let devices = &self.around.devices;
         match channel {
-            0 => put_device(&self.devices.first.first, out),
-            1 => put_device(&self.devices.first.second, out),
-            2 => put_device(&self.devices.second.first, out),
-            _ => put_device(&self.devices.second.second, out),
+            0 => &devices.first.first,
+            1 => &devices.first.second,
+            2 => &devices.second.first,
+            _ => &devices.second.second,
         }
     }
 }
 
-// What waits in a device, what it keeps and how many places are free.
-fn put_device(device: &Single<'_>, out: &mut Vec<u8>) -> Result<(), AllocError> {
-    match device {
-        Device::Tape(tape) => {
-            put_bytes(out, tape.rest)?;
-            put_text(out, b" / - / 0")
-        }
-        Device::Printer(printer) => {
-            put_text(out, b"- / ")?;
-            put_page(&printer.page, out)
-        }
-    }
-}
-
-// What a printer keeps; a hyphen where that is nothing.
-fn put_kept(page: &Queue<'_, u8>, out: &mut Vec<u8>) -> Result<(), AllocError> {
+// What a printer keeps, a hyphen where that is nothing, and how many places are free.
+fn put_page<W: Write>(page: &Queue<'_, u8>, out: &mut W) -> io::Result<()> {
     if page.is_empty() {
-        return put_text(out, b"-");
+        write!(out, "-")?;
     }
-    for index in 0..page.len() {
-        if let Some(byte) = page.get(index) {
-            put_pair(out, byte)?;
-        }
+    for byte in page.iter() {
+        write!(out, "{byte:02X}")?;
     }
-    Ok(())
-}
-
-// What a printer keeps and how many places are free.
-fn put_page(page: &Queue<'_, u8>, out: &mut Vec<u8>) -> Result<(), AllocError> {
-    put_kept(page, out)?;
-    put_text(out, b" / ")?;
-    put_number(out, page.capacity().saturating_sub(page.len()))
+    write!(out, " / {}", page.room())
 }

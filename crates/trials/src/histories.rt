@@ -1,11 +1,13 @@
 use audit::call::{Call, Reply};
 use audit::log::{Entry, play};
 use bus::flat::Flat;
-use bus::memory::Memory;
+use bus::memory::{Memory, Place};
 use cycle::record::Record;
+use cycle::surroundings::Surroundings;
 use devices::tape::Tape;
-use dmac::run::Ending;
+use dmac::run::{Ending, Ran};
 use queue::Queue;
+use refusal::kinds::Refusal;
 use registers::fault::Fault;
 use std::test::Fail;
 
@@ -21,40 +23,31 @@ const CALLS: [Call; 8] = [
     Call::WriteByte(0x02, 0),
 ];
 
-// A reply as a number: 0 done, a register's value, 1000 and the number of records of a run that waits, 2000 and the number
-// of a refusal.
-fn number_of(reply: Reply) -> u32 {
-    match reply {
-        Reply::Byte(value) => u32::from(value),
-        Reply::Word(value) => u32::from(value),
-        Reply::Done => 0,
-        Reply::Stepped(_) => 3000,
-        Reply::Ended(ran) => match ran.ending {
-            Ending::Waiting => 1000 + u32::from(ran.records),
-            _ => 4000,
-        },
-        Reply::Refused(refusal) => 2000 + u32::from(refusal.number()),
-    }
-}
-
-const REPLIES: [(usize, u32); 8] = [
-    (6, 0),
-    (6, 0),
-    (6, 0),
-    (6, 0),
-    (6, 0),
-    (6, 1004),
-    (2, 1),
-    (2, 2001),
+const REPLIES: [(usize, Result<Reply, Refusal>); 8] = [
+    (6, Ok(Reply::Done)),
+    (6, Ok(Reply::Done)),
+    (6, Ok(Reply::Done)),
+    (6, Ok(Reply::Done)),
+    (6, Ok(Reply::Done)),
+    (
+        6,
+        Ok(Reply::Ended(Ran {
+            ending: Ending::Waiting,
+            records: 4,
+        })),
+    ),
+    (2, Ok(Reply::Word(1))),
+    (2, Err(Refusal::NoRegister)),
 ];
 
 #[test]
 fn a_log_is_filled_in(rt: HostRuntime) -> Result<(), Fail> {
     let mut bytes = [0u8; 32];
-    let Ok(mut memory) = Flat::new(&mut bytes) else {
+    let Ok(memory) = Flat::new(&mut bytes) else {
         return Err(Fail::new("memory"));
     };
-    let mut devices = Tape::new(0, b"ab");
+    let devices = Tape::new(0, b"ab");
+    let mut around = Surroundings { memory, devices };
     let mut slots = [Record::Error {
         channel: 0,
         fault: Fault::Abort,
@@ -63,16 +56,22 @@ fn a_log_is_filled_in(rt: HostRuntime) -> Result<(), Fail> {
     let mut log = [Entry {
         call: Call::Run(0),
         room: 0,
-        reply: Reply::Done,
+        reply: Ok(Reply::Done),
     }; 8];
     for (entry, call) in log.iter_mut().zip(CALLS.iter()) {
         entry.call = *call;
     }
-    let controller = play(&mut log, &mut memory, &mut devices, &mut trace);
+    let controller = play(&mut log, &mut around, &mut trace);
     assert_eq!(rt; controller.read_word(0x0E)?, 0x0012);
-    assert_eq!(rt; memory.read(5, 0x11), Some(b'b'));
+    assert_eq!(rt;
+        around.memory.read(Place {
+            code: 5,
+            address: 0x11
+        }),
+        Some(b'b')
+    );
     for (entry, reply) in log.iter().zip(REPLIES.iter()) {
-        assert_eq!(rt; (entry.room, number_of(entry.reply)), *reply);
+        assert_eq!(rt; (entry.room, entry.reply), *reply);
     }
     Ok(())
 }

@@ -1,6 +1,0 @@
--- Each turn leaves fewer lines.
-use Rattle.std.proofs.Common.{length}
-use Rattle.replay.proofs.play.Given as goal
-
-abbrev pub decreases-loop-rest : goal.decreases-loop-rest
-decreases-loop-rest g l = length l.rest
