@@ -98,7 +98,7 @@ fn blanks(heap: Global, places: usize) -> Result<Vec<Record>, AllocError> {
     vec![in heap; BLANK; places]
 }
 
-// A memory over these bytes.
+// A memory over these bytes. A `map_err` gets no proof here, since the memory and the refused bytes are one borrow.
 fn flat<'a>(bytes: &'a mut [u8]) -> anyhow::Result<Flat<'a>> {
     match Flat::new(bytes) {
         Ok(memory) => Ok(memory),

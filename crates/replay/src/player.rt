@@ -4,6 +4,7 @@ use crate::line::{Line, Question};
 use crate::print::Shown;
 use audit::call::{Call, Reply};
 use audit::perform::perform;
+use bus::flat::PLACES;
 use bus::memory::{Memory, Place};
 use cycle::record::Record;
 use cycle::surroundings::Surroundings;
@@ -50,7 +51,7 @@ const SHOWN: [(u8, u8); 17] = [
 const LOWER: u8 = 1;
 
 // No address is at or above this one.
-const PLACES: u32 = 0x1000000;
+const ADDRESSES: u32 = PLACES as u32;
 
 // `upper` is a function code of the memory's upper part, if it has two; `moved` has a place for each record that the trace
 // can hold.
@@ -132,7 +133,7 @@ impl<'a, M: Memory> Player<'a, M> {
 
     // The bytes from a place on; two hyphens for one that is not answered.
     fn peek<W: Write>(&self, code: u8, address: u32, count: u32, out: &mut W) -> io::Result<()> {
-        for index in 0..count.min(PLACES) {
+        for index in 0..count.min(ADDRESSES) {
             let place = Place {
                 code,
                 address: address.wrapping_add(index),
@@ -147,7 +148,7 @@ impl<'a, M: Memory> Player<'a, M> {
 
     // All bytes that a function code names.
     fn all_bytes<W: Write>(&self, code: u8, out: &mut W) -> io::Result<()> {
-        for address in 0..PLACES {
+        for address in 0..ADDRESSES {
             let Some(byte) = self.around.memory.read(Place { code, address }) else {
                 break;
             };

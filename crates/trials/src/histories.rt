@@ -1,6 +1,6 @@
+use crate::tests::flat;
 use audit::call::{Call, Reply};
 use audit::log::{Entry, play};
-use bus::flat::Flat;
 use bus::memory::{Memory, Place};
 use cycle::record::Record;
 use cycle::surroundings::Surroundings;
@@ -43,9 +43,7 @@ const REPLIES: [(usize, Result<Reply, Refusal>); 8] = [
 #[test]
 fn a_log_is_filled_in(rt: HostRuntime) -> Result<(), Fail> {
     let mut bytes = [0u8; 32];
-    let Ok(memory) = Flat::new(&mut bytes) else {
-        return Err(Fail::new("memory"));
-    };
+    let memory = flat(&mut bytes)?;
     let devices = Tape::new(0, b"ab");
     let mut around = Surroundings { memory, devices };
     let mut slots = [Record::Error {

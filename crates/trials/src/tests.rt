@@ -26,6 +26,14 @@ fn error(channel: u8, fault: Fault) -> Answer {
     Answer::Recorded(Record::Error { channel, fault })
 }
 
+// A memory over these bytes. A `map_err` gets no proof here, since the memory and the refused bytes are one borrow.
+pub fn flat<'a>(bytes: &'a mut [u8]) -> Result<Flat<'a>, Fail> {
+    match Flat::new(bytes) {
+        Ok(memory) => Ok(memory),
+        Err(_) => Err(Fail::new("memory")),
+    }
+}
+
 // Sets up a channel: settings, count, memory and device address.
 fn set_up(
     controller: &mut Dmac,
@@ -45,9 +53,7 @@ fn set_up(
 #[test]
 fn a_byte_comes_in_for_each_request(rt: HostRuntime) -> Result<(), Fail> {
     let mut bytes = [0u8; 32];
-    let Ok(memory) = Flat::new(&mut bytes) else {
-        return Err(Fail::new("memory"));
-    };
+    let memory = flat(&mut bytes)?;
     let devices = Tape::new(0, b"ab");
     let mut around = Surroundings { memory, devices };
     let mut controller = Dmac::new();
@@ -89,9 +95,7 @@ fn a_byte_comes_in_for_each_request(rt: HostRuntime) -> Result<(), Fail> {
 #[test]
 fn a_long_operand_outlasts_every_exception(rt: HostRuntime) -> Result<(), Fail> {
     let mut bytes = [1u8, 2, 3, 4, 5, 6, 7, 8];
-    let Ok(memory) = Flat::new(&mut bytes) else {
-        return Err(Fail::new("memory"));
-    };
+    let memory = flat(&mut bytes)?;
     let mut places = [0u8; 8];
     let devices = Printer::new(1, &mut places);
     let mut around = Surroundings { memory, devices };
@@ -145,9 +149,7 @@ fn a_long_operand_outlasts_every_exception(rt: HostRuntime) -> Result<(), Fail> 
 #[test]
 fn single_addressing_joins_memory_and_device(rt: HostRuntime) -> Result<(), Fail> {
     let mut bytes = [1u8, 2, 3, 4];
-    let Ok(memory) = Flat::new(&mut bytes) else {
-        return Err(Fail::new("memory"));
-    };
+    let memory = flat(&mut bytes)?;
     let mut places = [0u8; 3];
     let devices = Pair::new(3, Printer::new(2, &mut places), Tape::new(3, b"xyz"));
     let mut around = Surroundings { memory, devices };
@@ -185,9 +187,7 @@ fn single_addressing_joins_memory_and_device(rt: HostRuntime) -> Result<(), Fail
 #[test]
 fn a_lower_priority_passes_while_the_other_waits_for_its_line(rt: HostRuntime) -> Result<(), Fail> {
     let mut bytes = [0u8; 32];
-    let Ok(memory) = Flat::new(&mut bytes) else {
-        return Err(Fail::new("memory"));
-    };
+    let memory = flat(&mut bytes)?;
     let devices = Tape::new(0, b"abcd");
     let mut around = Surroundings { memory, devices };
     let mut controller = Dmac::new();
