@@ -92,7 +92,7 @@ fn run_line<'a>(line: &'a [u8]) -> Result<Command<'a>, Refusal>
     Ok(Command::Run { steps })
 }
 
-// The command of `line`, whose first byte is `letter`.
+// The command of `line`, whose first byte is `letter`: a character, so that it stands here as it does in a script.
 fn by_letter<'a>(letter: char, line: &'a [u8]) -> Result<Command<'a>, Refusal>
     ensures { said result ≡ by_letter letter line.now }
 {
