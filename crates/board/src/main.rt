@@ -7,11 +7,8 @@
 use anyhow::anyhow;
 use bus::flat::Flat;
 use inputs::for_each_input;
-use monitor::monitor::Monitor;
+use monitor::monitor::{Monitor, SCRIPT};
 use std::io::Write;
-
-// The most bytes of a script that are read.
-const SCRIPT: u64 = 16384;
 
 // Runs a script on a new board, with 4,096 memory bytes of 0, and prints what it answers.
 fn run(rt: &HostRuntime, script: &[u8]) -> anyhow::Result<()> {
@@ -27,5 +24,5 @@ fn run(rt: &HostRuntime, script: &[u8]) -> anyhow::Result<()> {
 }
 
 fn main(rt: HostRuntime) -> anyhow::Result<()> {
-    for_each_input(&rt, SCRIPT, |script| run(&rt, script))
+    for_each_input(&rt, SCRIPT as u64, |script| run(&rt, script))
 }

@@ -1,6 +1,9 @@
 // The inputs that a program is given: the files named in its arguments, or standard input.
 #![tactic(auto)]
 
+#[cfg(test)]
+mod tests;
+
 ghost use Rattle.std.specs.Prelude.{Ok, OnOk};
 ghost use Rattle.inputs.specs.Inputs.{RanAtInputs};
 

@@ -38,7 +38,7 @@ pub struct Monitor<M: Memory> {
 }
 
 // The most bytes of a script that are read.
-const SCRIPT: usize = 16384;
+pub const SCRIPT: usize = 16384;
 
 // The places of the trace of a run.
 const TRACE: usize = 128;

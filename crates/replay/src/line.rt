@@ -3,6 +3,7 @@ use crate::fields::{
     LineError, decimal, decimal_below, decimal_byte, fields_of, flag, hex, hex_of,
 };
 use audit::call::Call;
+use bus::memory::Place;
 use std::alloc::Global;
 
 // A line is a call, the emptying of the trace, or a question.
@@ -17,7 +18,7 @@ pub enum Line {
 pub enum Question {
     Registers { channel: u8 },
     General,
-    Peek { code: u8, address: u32, count: u32 },
+    Peek { place: Place, count: u32 },
     Bytes { upper: bool },
     Device { channel: u8 },
 }
@@ -47,8 +48,10 @@ fn question_of(fields: &[&[u8]]) -> Result<Question, LineError> {
         }),
         [b"gcr"] => Ok(Question::General),
         [b"peek", code, address, count] => Ok(Question::Peek {
-            code: decimal_below(code, 8)?,
-            address: hex_of(address, 6)?,
+            place: Place {
+                code: decimal_below(code, 8)?,
+                address: hex_of(address, 6)?,
+            },
             count: hex(count)?,
         }),
         [b"mem?", upper] => Ok(Question::Bytes {

@@ -34,13 +34,13 @@ use devices::pair::Pair;
 use devices::printer::Printer;
 use devices::tape::Tape;
 use dmac::controller::Dmac;
+use inputs::for_each_input;
 use queue::Queue;
 use registers::fault::Fault;
 use script::lines::Lines;
 use std::alloc::{AllocError, Global};
-use std::fs::File;
-use std::io::{BufWriter, Read, Write};
-use std::{env, io};
+use std::io;
+use std::io::{BufWriter, Write};
 
 // What a place of a trace holds before a record is put there.
 const BLANK: Record = Record::Error {
@@ -189,7 +189,7 @@ impl<'a, W: Write + Drop> Sequence<'a, W> {
     }
 }
 
-// Plays a sequence, and writes what is left of the answers.
+// Plays a sequence, and prints its answers.
 fn replay(rt: &HostRuntime, input: &[u8]) -> anyhow::Result<()> {
     let mut sequence = Sequence {
         heap: rt.alloc(),
@@ -201,33 +201,6 @@ fn replay(rt: &HostRuntime, input: &[u8]) -> anyhow::Result<()> {
     Ok(())
 }
 
-// The sequence of a file or, for -, of standard input.
-fn sequence_of(rt: &HostRuntime, name: &str) -> anyhow::Result<Vec<u8>> {
-    let mut input = Vec::new(rt.alloc());
-    if name == "-" {
-        rt.stdin().read_to_end(&mut input)?;
-    } else {
-        File::open(rt, name)?.read_to_end(&mut input)?;
-    }
-    Ok(input)
-}
-
-fn replay_named(rt: &HostRuntime, name: &str) -> anyhow::Result<()> {
-    let input = sequence_of(rt, name)?;
-    replay(rt, &input)
-}
-
-fn replay_all(rt: &HostRuntime) -> anyhow::Result<()> {
-    let mut names = env::args(rt)?.skip(1).peekable();
-    if names.peek().is_none() {
-        return replay_named(rt, "-");
-    }
-    for name in names {
-        replay_named(rt, name.as_str())?;
-    }
-    Ok(())
-}
-
 fn main(rt: HostRuntime) -> anyhow::Result<()> {
-    replay_all(&rt)
+    for_each_input(&rt, u64::MAX, |input| replay(&rt, input))
 }

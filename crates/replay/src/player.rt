@@ -85,11 +85,7 @@ impl<'a, M: Memory> Player<'a, M> {
         match question {
             Question::Registers { channel } => self.registers(channel, out),
             Question::General => self.register(GENERAL, 1, out),
-            Question::Peek {
-                code,
-                address,
-                count,
-            } => self.peek(code, address, count, out),
+            Question::Peek { place, count } => self.peek(place, count, out),
             Question::Bytes { upper: false } => self.all_bytes(LOWER, out),
             Question::Bytes { upper: true } => match self.upper {
                 Some(code) => self.all_bytes(code, out),
@@ -132,16 +128,14 @@ impl<'a, M: Memory> Player<'a, M> {
     }
 
     // The bytes from a place on; two hyphens for one that is not answered.
-    fn peek<W: Write>(&self, code: u8, address: u32, count: u32, out: &mut W) -> io::Result<()> {
-        for index in 0..count.min(ADDRESSES) {
-            let place = Place {
-                code,
-                address: address.wrapping_add(index),
-            };
-            match self.around.memory.read(place) {
+    fn peek<W: Write>(&self, place: Place, count: u32, out: &mut W) -> io::Result<()> {
+        let mut at = place;
+        for _ in 0..count.min(ADDRESSES) {
+            match self.around.memory.read(at) {
                 Some(byte) => write!(out, "{byte:02X}")?,
                 None => write!(out, "--")?,
             }
+            at = at.next();
         }
         Ok(())
     }

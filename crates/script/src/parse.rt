@@ -1,6 +1,6 @@
 // What a line says: the numbers in it, then one function for each form of line, then the choice by the letter.
-ghost use Rattle.std.specs.Prelude.{◌≡◌, [], ◌∷◌};
-ghost use Rattle.script.specs.Command.{said, pair_at, address_at, write_line, read_line, fill_line, show_line, run_line, by_letter, parsed};
+ghost use Rattle.std.specs.Prelude.{◌≡◌, cond, ◌&&◌, ◌==◌, [], ◌∷◌, length};
+ghost use Rattle.script.specs.Command.{said, no_command, blank_at, pair_at, address_at, write_line, read_line, fill_line, show_line, run_line, by_letter, parsed};
 
 use crate::command::Command;
 use crate::digits::{all_digits, digit};
@@ -27,6 +27,16 @@ fn address(digits: [u8; 6]) -> Result<u32, Refusal>
     Ok(u32::from_be_bytes([0, high, mid, low]))
 }
 
+// The pair of a line that is a letter, a blank and two digits.
+fn lone_pair(line: &[u8]) -> Result<u8, Refusal>
+    ensures { result ≡ cond (length line.now == 4 && blank_at line.now 1) (pair_at line.now 2) no_command }
+{
+    let &[_, b' ', a, b] = line else {
+        return Err(Refusal::NoCommand);
+    };
+    pair(a, b)
+}
+
 // `W oo vv`
 fn write_line<'a>(line: &'a [u8]) -> Result<Command<'a>, Refusal>
     ensures { said result ≡ write_line line.now }
@@ -43,10 +53,7 @@ fn write_line<'a>(line: &'a [u8]) -> Result<Command<'a>, Refusal>
 fn read_line<'a>(line: &'a [u8]) -> Result<Command<'a>, Refusal>
     ensures { said result ≡ read_line line.now }
 {
-    let &[_, b' ', a, b] = line else {
-        return Err(Refusal::NoCommand);
-    };
-    let offset = pair(a, b)?;
+    let offset = lone_pair(line)?;
     Ok(Command::Read { offset })
 }
 
@@ -81,14 +88,11 @@ fn show_line<'a>(line: &'a [u8]) -> Result<Command<'a>, Refusal>
 fn run_line<'a>(line: &'a [u8]) -> Result<Command<'a>, Refusal>
     ensures { said result ≡ run_line line.now }
 {
-    let &[_, b' ', a, b] = line else {
-        return Err(Refusal::NoCommand);
-    };
-    let steps = pair(a, b)?;
+    let steps = lone_pair(line)?;
     Ok(Command::Run { steps })
 }
 
-// The command of `line`, whose first byte is `letter`.
+// The command of `line`, whose first byte is `letter`: a character, so that it stands here as it does in a script.
 fn by_letter<'a>(letter: char, line: &'a [u8]) -> Result<Command<'a>, Refusal>
     ensures { said result ≡ by_letter letter line.now }
 {

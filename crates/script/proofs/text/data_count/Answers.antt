@@ -3,5 +3,5 @@ use Rattle.std.proofs.Common.{rules}
 use Rattle.script.proofs.Pairs.{data_count}
 use Rattle.script.proofs.text.data_count.Goals as goal
 
-pub returns : goal.returns
-returns c = search (rules, data_count)
+pub returns-clause-bytes : goal.returns-clause-bytes
+returns-clause-bytes c = search (rules, data_count)
