@@ -7,10 +7,12 @@
 //     memory.read(place)                           // Some(0x41)
 //
 // A memory is any type with the trait `Memory`; what it means is one record of specs/Memory.antt, and code over a
-// memory is proved from that meaning alone. `Flat` is one over given bytes, `Split` joins two.
+// memory is proved from that meaning alone. `Flat` is one over given bytes, `Split` joins two, and a
+// `&mut` to a memory is one too.
 #![tactic(auto)]
 
 pub mod flat;
+pub mod lent;
 pub mod memory;
 pub mod split;
 pub mod store;

@@ -7,10 +7,12 @@
 //     devices.can_take(2, 1)                       // false: a tape takes nothing
 //
 // A bank is any type with the trait `DeviceBank`; what it means is one record of specs/Bank.antt, and code over a
-// bank is proved from that meaning alone. docs/DEVICES.md is for whoever writes another one.
+// bank is proved from that meaning alone. A `&mut` to a bank is one too. docs/DEVICES.md is for
+// whoever writes another one.
 #![tactic(auto)]
 
 pub mod bank;
+pub mod lent;
 pub mod none;
 pub mod pair;
 pub mod printer;

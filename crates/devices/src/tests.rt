@@ -47,3 +47,17 @@ fn a_pair_divides_the_channels(rt: HostRuntime) {
     let mut above = Pair::new(9, NoDevices, Tape::new(3, b"a"));
     assert_eq!(rt; above.give(3), None);
 }
+
+// What is done with a bank that is lent is done with the bank.
+#[test]
+fn a_lent_bank_is_the_bank(rt: HostRuntime) {
+    let mut places = [0u8; 2];
+    let mut printer = Printer::new(2, &mut places);
+    let mut lent = &mut printer;
+    lent.take_word(2, 7, 8);
+    assert!(rt; !lent.can_take(2, 1) && !lent.can_give(2, 1));
+    assert_eq!(rt; lent.give(2), None);
+    let mut kept = [0u8; 2];
+    assert_eq!(rt; printer.move_kept(&mut kept, 2), 2);
+    assert_eq!(rt; kept, [7, 8]);
+}

@@ -4,6 +4,7 @@ ghost use Rattle.std.specs.Iterator.{YieldsFirstRef, item_count};
 ghost use Rattle.queue.specs.Queue.{left};
 
 // The elements of a queue, the oldest first: those of `first` that are left, and then those of `rest`.
+// No `Chain` of the parts: callers' proofs see one list, of what is left.
 #[derive(Drop)]
 pub struct Iter<'a, T> {
     first: &'a [T],

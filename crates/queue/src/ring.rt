@@ -2,9 +2,12 @@
 ghost use Rattle.std.specs.Prelude.{◌≡◌, ◌+◌, ◌-◌, ◌<◌, ◌≤◌, min, false, not, [], ◌∷◌, ◌++◌, length, take, drop, if◌then◌else◌, ◌==◌, nat_lt};
 
 use crate::iter::Iter;
+pub use crate::moves::move_oldest;
 
 // The oldest element is in the slot `head`, and the `len` elements follow one another from there on; after
 // the last slot comes the first. No more are held than there are slots.
+// Lent slots and no list that grows: the controller has no heap.
+// Each call says that the room stays, since a fact about one moment can't say it.
 #[derive(Drop)]
 pub struct Queue<'a, T: Copy> {
     slots: &'a mut [T],
@@ -109,7 +112,7 @@ impl<'a, T: Copy> Queue<'a, T> {
     }
 
     // Adds an element as the newest; false, with nothing changed, where the queue is full.
-    // A bool and no Result: callers have made sure of room before, and would drop the error.
+    // A bool and no Result: there is one cause, and the caller still has the element, which is `Copy`.
     pub fn push(&mut self, x: T) -> bool
         ensures answer { result ≡ nat_lt (length (held self.old)) (capacity_of self.old) }
         ensures items { held self.new ≡ (if result then held self.old ++ (x ∷ []) else held self.old) }
