@@ -10,7 +10,7 @@ impl Channel {
         ensures { result ≡ is_automatic self.now }
     {
         match self.registers.config.reqg() {
-            Requests::Automatic => true,
+            Requests::LimitedRate | Requests::MaximumRate => true,
             Requests::Line => false,
             Requests::FirstAutomatic => self.first,
         }

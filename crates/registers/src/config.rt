@@ -1,8 +1,8 @@
 // The fields of the configuration registers. Each is read by its mask and shift once, as a kind; a value that means
 // nothing is None.
-ghost use Rattle.std.specs.Prelude.{◌≡◌};
+ghost use Rattle.std.specs.Prelude.{◌≡◌, nat_le};
 ghost use Rattle.registers.specs.Bits.{odd};
-ghost use Rattle.registers.specs.Config.{mode_of, device_type_of, is_port16, size_given, chain_given, requests_of, counting_of, mac, dac, is_single, is_chained, is_array, is_burst, is_inward, is_device_memory, size_of, chain_of, bytes_of, moved_as, next_mar, stride, next_dar, is_misplaced, is_field_unused, is_single_unfit, is_dual_unfit, is_unusable};
+ghost use Rattle.registers.specs.Config.{mode_of, device_type_of, is_port16, size_given, chain_given, reqg, requests_of, counting_of, mac, dac, is_single, is_chained, is_array, is_burst, is_inward, is_device_memory, size_of, chain_of, bytes_of, moved_as, next_mar, stride, next_dar, is_misplaced, is_field_unused, is_single_unfit, is_dual_unfit, is_unusable};
 
 use crate::groups::{Chain, Config, Counting, DeviceType, RequestMode, Requests, Size};
 
@@ -59,7 +59,8 @@ impl Config {
         ensures { result ≡ requests_of self.now }
     {
         match self.ocr & 3 {
-            0 | 1 => Requests::Automatic,
+            0 => Requests::LimitedRate,
+            1 => Requests::MaximumRate,
             2 => Requests::Line,
             _ => Requests::FirstAutomatic,
         }
@@ -68,6 +69,13 @@ impl Config {
     fn mac(&self) -> Option<Counting>
         ensures { result ≡ counting_of (mac self.now) }
     {
+    // At either rate, the channel makes all its requests itself.
+    fn is_automatic(&self) -> bool
+        ensures { result ≡ nat_le (reqg self.now) 1 }
+    {
+        matches!(self.reqg(), Requests::LimitedRate | Requests::MaximumRate)
+    }
+
         counting((self.scr >> 2) & 3)
     }
 
@@ -112,7 +120,7 @@ impl Config {
     pub fn is_device_memory(&self) -> bool
         ensures { result ≡ is_device_memory self.now }
     {
-        self.dtyp() == DeviceType::Dual && self.reqg() == Requests::Automatic
+        self.dtyp() == DeviceType::Dual && self.is_automatic()
     }
 
     pub fn size(&self) -> Size
@@ -198,10 +206,7 @@ impl Config {
     fn is_dual_unfit(&self) -> bool
         ensures { result ≡ is_dual_unfit self.now }
     {
-        !self.is_single()
-            && self.is_port16()
-            && self.size() == Size::Byte
-            && self.reqg() != Requests::Automatic
+        !self.is_single() && self.is_port16() && self.size() == Size::Byte && !self.is_automatic()
     }
 
     // Settings that no start takes, with or without the continue bit.

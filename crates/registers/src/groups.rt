@@ -89,11 +89,12 @@ pub enum Chain {
     Linked,
 }
 
-// Where requests come from: from the channel itself, from the request line, or for an operation's first operand
-// from the channel and then from the line.
+// Where requests come from: from the channel itself, at a limited rate or at full speed; from the request line; or
+// for an operation's first operand from the channel and then from the line.
 #[derive(Clone, Copy, PartialEq, Eq, Debug)]
 pub enum Requests {
-    Automatic,
+    LimitedRate,
+    MaximumRate,
     Line,
     FirstAutomatic,
 }
