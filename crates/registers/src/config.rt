@@ -7,6 +7,7 @@ ghost use Rattle.registers.specs.Config.{mode_of, device_type_of, is_port16, siz
 use crate::groups::{Chain, Config, Counting, DeviceType, RequestMode, Requests, Size};
 
 impl Config {
+    // No TryFrom: what a number means belongs to its field, and not to the kind.
     fn xrm(&self) -> Option<RequestMode>
         ensures { result ≡ mode_of self.now }
     {
@@ -27,6 +28,7 @@ impl Config {
         }
     }
 
+    // Whether the device has a port of 16 bits, and not of 8.
     pub fn is_port16(&self) -> bool
         ensures { result ≡ is_port16 self.now }
     {
@@ -55,6 +57,7 @@ impl Config {
         }
     }
 
+    // Where the operation's requests come from.
     pub fn reqg(&self) -> Requests
         ensures { result ≡ requests_of self.now }
     {
@@ -66,9 +69,6 @@ impl Config {
         }
     }
 
-    fn mac(&self) -> Option<Counting>
-        ensures { result ≡ counting_of (mac self.now) }
-    {
     // At either rate, the channel makes all its requests itself.
     fn is_automatic(&self) -> bool
         ensures { result ≡ nat_le (reqg self.now) 1 }
@@ -76,6 +76,9 @@ impl Config {
         matches!(self.reqg(), Requests::LimitedRate | Requests::MaximumRate)
     }
 
+    fn mac(&self) -> Option<Counting>
+        ensures { result ≡ counting_of (mac self.now) }
+    {
         counting((self.scr >> 2) & 3)
     }
 
@@ -85,24 +88,28 @@ impl Config {
         counting(self.scr & 3)
     }
 
+    // Whether one cycle joins the device and memory, so that the device needs no address.
     pub fn is_single(&self) -> bool
         ensures { result ≡ is_single self.now }
     {
         self.dtyp() == DeviceType::Single
     }
 
+    // Whether a table says where the operation's blocks lie, as an array or as linked entries.
     pub fn is_chained(&self) -> bool
         ensures { result ≡ is_chained self.now }
     {
         self.chain() != Chain::Plain
     }
 
+    // Whether the entries of the operation's blocks lie one after the other.
     pub fn is_array(&self) -> bool
         ensures { result ≡ is_array self.now }
     {
         self.chain() == Chain::Array
     }
 
+    // Whether the request line asks while it is on, and not by a change from off to on.
     pub fn is_burst(&self) -> bool
         ensures { result ≡ is_burst self.now }
     {
@@ -123,12 +130,14 @@ impl Config {
         self.dtyp() == DeviceType::Dual && self.is_automatic()
     }
 
+    // The size of an operand; a field that means nothing counts as a long.
     pub fn size(&self) -> Size
         ensures { result ≡ size_of self.now }
     {
         self.size_field().unwrap_or(Size::Long)
     }
 
+    // Where the operation's blocks come from; a field that means nothing counts as no chaining.
     pub fn chain(&self) -> Chain
         ensures { result ≡ chain_of self.now }
     {
@@ -220,6 +229,7 @@ impl Config {
     }
 }
 
+// Whether an address is odd: no word may lie there.
 pub fn is_odd(address: u32) -> bool
     ensures { result ≡ odd address }
 {

@@ -37,6 +37,7 @@ pub struct Status {
     pub cer: u8,
 }
 
+// The control byte, of which the continue, halt and interrupt bits are stored.
 #[derive(Clone, Copy, PartialEq, Eq, Debug, Default)]
 pub struct Control {
     pub ccr: u8,
@@ -63,6 +64,7 @@ impl Default for Vectors {
     }
 }
 
+// All registers of a channel.
 #[derive(Clone, Copy, PartialEq, Eq, Debug, Default)]
 pub struct Registers {
     pub config: Config,
