@@ -8,6 +8,7 @@ use crate::state::Channel;
 use registers::fault::Fault;
 
 impl Channel {
+    // What a register byte reads.
     pub fn read(&self, register: Register) -> u8
         ensures { result ≡ register_read register self.now }
     {
@@ -33,6 +34,7 @@ impl Channel {
     }
 
     // A write that is made, whatever the channel is doing.
+    // The five longer registers have an arm each, since each has a field and a width of its own.
     fn store(&mut self, register: Register, value: u8)
         ensures { self.new ≡ register_written register value self.old }
     {

@@ -2,12 +2,15 @@
 // memory and no device is known here.
 //
 //     let mut channel = Channel::new();
-//     channel.write(Register::Ocr, 0x01);      // bytes, no chaining, automatic requests
-//     channel.write(Register::Ccr, 0x80);      // start: refused, since the transfer counter is 0
+//     // Bytes, no chaining, automatic requests.
+//     channel.write(Access::Nowhere, 0, Access::To(Register::Ocr), 0x01);
+//     // A start: it is an error, since the transfer counter is 0.
+//     channel.write(Access::To(Register::Ccr), 0x80, Access::Nowhere, 0);
 //     channel.read(Register::Cer)              // 13
 //
 // specs/ has the meaning of each call: Decode (which register stands where), State (the channel), Start (the
-// checks of a start and what it leaves), Write and Read (register access).
+// checks of a start and what it leaves), Operation (operands, the end of a block, table entries), Requests (when
+// the channel asks for the bus), Write and Read (register access).
 #![tactic(auto)]
 
 pub mod access;

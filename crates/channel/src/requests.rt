@@ -10,7 +10,7 @@ impl Channel {
         ensures { result ≡ is_automatic self.now }
     {
         match self.registers.config.reqg() {
-            Requests::Automatic => true,
+            Requests::LimitedRate | Requests::MaximumRate => true,
             Requests::Line => false,
             Requests::FirstAutomatic => self.first,
         }
@@ -39,6 +39,7 @@ impl Channel {
         self.first = false;
     }
 
+    // The request line has this level now; in cycle steal mode an active channel latches a change from off to on.
     pub fn set_line(&mut self, on: bool)
         ensures { self.new ≡ line_set on self.old }
     {

@@ -1,5 +1,5 @@
 // Starting, continuing and aborting a channel: what a write to its control register does.
-ghost use Rattle.std.specs.Prelude.{◌≡◌, take, drop};
+ghost use Rattle.std.specs.Prelude.{◌≡◌, false, take, drop};
 ghost use Rattle.std.specs.Result.{result_err};
 ghost use Rattle.registers.specs.Checks.{first_failing};
 ghost use Rattle.channel.specs.Start.{start_checks, start_fault, started, start_tried, continue_tried, abort_tried, commanded, control_written};
@@ -20,12 +20,13 @@ impl Channel {
         if self.registers.config.is_unusable(cnt) {
             return Err(Fault::Configuration);
         }
-        self.check_addresses(cnt)?;
-        self.check_counts(cnt)
+        self.check_addresses()?;
+        self.check_counts()
     }
 
-    fn check_addresses(&self, cnt: bool) -> Result<(), Fault>
-        ensures { result_err result ≡ first_failing (take 3 (drop 2 (start_checks cnt self.now.registers))) }
+    // Of the addresses: the same with CNT and without.
+    fn check_addresses(&self) -> Result<(), Fault>
+        ensures { result_err result ≡ first_failing (take 3 (drop 2 (start_checks false self.now.registers))) }
     {
         let config = self.registers.config;
         if !config.is_chained() && config.is_misplaced(self.registers.counters.mar) {
@@ -43,8 +44,9 @@ impl Channel {
         Ok(())
     }
 
-    fn check_counts(&self, cnt: bool) -> Result<(), Fault>
-        ensures { result_err result ≡ first_failing (drop 5 (start_checks cnt self.now.registers)) }
+    // Of the counts: the same with CNT and without.
+    fn check_counts(&self) -> Result<(), Fault>
+        ensures { result_err result ≡ first_failing (drop 5 (start_checks false self.now.registers)) }
     {
         let config = self.registers.config;
         if !config.is_chained() && self.registers.counters.mtc == 0 {

@@ -48,6 +48,7 @@ pub struct Channel {
 }
 
 impl Channel {
+    // A channel at first: its registers at their defaults, idle, and the request line off.
     pub fn new() -> Channel
         ensures { result ≡ new_channel }
     {

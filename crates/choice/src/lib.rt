@@ -15,6 +15,7 @@ ghost use Rattle.std.specs.Prelude.{◌≡◌, ◌<◌, IfSome};
 ghost use Rattle.choice.specs.Choice.{Chosen, asks, channel_at, choice};
 
 // The channel to serve, if any counts. Nothing else than the arguments decides it.
+// Two arrays side by side, as in specs/Choice: a channel has its priority whether it counts or not.
 pub fn choose(counts: [bool; 4], priorities: [u8; 4], last: u8) -> Option<u8>
     ensures function { result ≡ choice counts priorities last }
     ensures relation { Chosen counts priorities last result }

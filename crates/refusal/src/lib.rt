@@ -3,7 +3,7 @@
 //
 //     match controller.read_byte(0x02) {
 //         Ok(byte) => ..,
-//         Err(refusal) => println!(rt, "E {:02}", refusal.number())?,
+//         Err(refusal) => println!(rt; "E {:02}", refusal.number())?,
 //     }
 //
 // The number of each case is what a script prints after its E. If several cases fit a call, the one with
@@ -18,7 +18,7 @@ ghost use Rattle.refusal.specs.Number.{number_of};
 use crate::kinds::Refusal;
 
 impl Refusal {
-    // The number by which this refusal is known. By this name and no From, since a script prints just this number.
+    // The number by which this refusal is known. A method and no From: its name says which number it is.
     pub fn number(self) -> u8
         ensures { result ≡ number_of self }
     {

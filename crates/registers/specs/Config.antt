@@ -1,7 +1,7 @@
 -- The fields of the configuration registers.
 use Rattle.std.specs.Prelude.{ℕ, ◌+◌, ◌-◌, ◌*◌, ◌/◌, ◌%◌, Bool, cond, not, ◌&&◌, ◌||◌, ◌==◌, bit_and, nat_le, Some, None, Option}
 use Rattle.registers.specs.Bits.{any, odd}
-use Rattle.registers.specs.Groups.{Config, Size, Byte, Word, Long, Chain, Plain, Array, Linked, Requests, Automatic, Line, FirstAutomatic, RequestMode, Burst, CycleSteal, DeviceType, Dual, DualDevice, Single, Counting, Still, Up, Down}
+use Rattle.registers.specs.Groups.{Config, Size, Byte, Word, Long, Chain, Plain, Array, Linked, Requests, LimitedRate, MaximumRate, Line, FirstAutomatic, RequestMode, Burst, CycleSteal, DeviceType, Dual, DualDevice, Single, Counting, Still, Up, Down}
 
 -- DCR, device control. XRM, bits 7-6: 0 burst, 2 and 3 cycle steal, 1 none.
 abbrev pub xrm : Config → ℕ
@@ -23,8 +23,8 @@ size_field k = bit_and (k.ocr / 16) 3
 abbrev pub chain_field : Config → ℕ
 chain_field k = bit_and (k.ocr / 4) 3
 
--- REQG, bits 1-0: 0 and 1 automatic requests, 2 the request line, 3 an operation's first operand automatic and
--- then the line.
+-- REQG, bits 1-0: 0 automatic requests at a limited rate, 1 automatic requests at full speed, 2 the request line,
+-- 3 an operation's first operand automatic and then the line.
 abbrev pub reqg : Config → ℕ
 reqg k = bit_and k.ocr 3
 
@@ -55,9 +55,11 @@ abbrev pub chain_given : Config → Option Chain
 chain_given k =
     cond (chain_field k == 0) (Some Plain) (cond (chain_field k == 2) (Some Array) (cond (chain_field k == 3) (Some Linked) None))
 
--- REQG: automatic requests, the request line, or an operation's first operand automatic and then the line.
+-- REQG: automatic requests at a limited rate or at full speed, the request line, or an operation's first operand
+-- automatic and then the line.
 abbrev pub requests_of : Config → Requests
-requests_of k = cond (nat_le (reqg k) 1) Automatic (cond (reqg k == 2) Line FirstAutomatic)
+requests_of k =
+    cond (reqg k == 0) LimitedRate (cond (reqg k == 1) MaximumRate (cond (reqg k == 2) Line FirstAutomatic))
 
 -- MAC or DAC: still, up or down.
 abbrev pub counting_of : ℕ → Option Counting

@@ -11,7 +11,7 @@ pub use Rattle.registers.specs.declared.groups.Size.TheVariants.{Byte, Word, Lon
 pub use Rattle.registers.specs.declared.groups.Chain.{Chain}
 pub use Rattle.registers.specs.declared.groups.Chain.TheVariants.{Plain, Array, Linked}
 pub use Rattle.registers.specs.declared.groups.Requests.{Requests}
-pub use Rattle.registers.specs.declared.groups.Requests.TheVariants.{Automatic, Line, FirstAutomatic}
+pub use Rattle.registers.specs.declared.groups.Requests.TheVariants.{LimitedRate, MaximumRate, Line, FirstAutomatic}
 pub use Rattle.registers.specs.declared.groups.RequestMode.{RequestMode}
 pub use Rattle.registers.specs.declared.groups.RequestMode.TheVariants.{Burst, CycleSteal}
 pub use Rattle.registers.specs.declared.groups.DeviceType.{DeviceType}

@@ -1,12 +1,13 @@
 // The fields of the configuration registers. Each is read by its mask and shift once, as a kind; a value that means
 // nothing is None.
-ghost use Rattle.std.specs.Prelude.{◌≡◌};
+ghost use Rattle.std.specs.Prelude.{◌≡◌, nat_le};
 ghost use Rattle.registers.specs.Bits.{odd};
-ghost use Rattle.registers.specs.Config.{mode_of, device_type_of, is_port16, size_given, chain_given, requests_of, counting_of, mac, dac, is_single, is_chained, is_array, is_burst, is_inward, is_device_memory, size_of, chain_of, bytes_of, moved_as, next_mar, stride, next_dar, is_misplaced, is_field_unused, is_single_unfit, is_dual_unfit, is_unusable};
+ghost use Rattle.registers.specs.Config.{mode_of, device_type_of, is_port16, size_given, chain_given, reqg, requests_of, counting_of, mac, dac, is_single, is_chained, is_array, is_burst, is_inward, is_device_memory, size_of, chain_of, bytes_of, moved_as, next_mar, stride, next_dar, is_misplaced, is_field_unused, is_single_unfit, is_dual_unfit, is_unusable};
 
 use crate::groups::{Chain, Config, Counting, DeviceType, RequestMode, Requests, Size};
 
 impl Config {
+    // No TryFrom: what a number means belongs to its field, and not to the kind.
     fn xrm(&self) -> Option<RequestMode>
         ensures { result ≡ mode_of self.now }
     {
@@ -27,6 +28,7 @@ impl Config {
         }
     }
 
+    // Whether the device has a port of 16 bits, and not of 8.
     pub fn is_port16(&self) -> bool
         ensures { result ≡ is_port16 self.now }
     {
@@ -55,14 +57,23 @@ impl Config {
         }
     }
 
+    // Where the operation's requests come from.
     pub fn reqg(&self) -> Requests
         ensures { result ≡ requests_of self.now }
     {
         match self.ocr & 3 {
-            0 | 1 => Requests::Automatic,
+            0 => Requests::LimitedRate,
+            1 => Requests::MaximumRate,
             2 => Requests::Line,
             _ => Requests::FirstAutomatic,
         }
+    }
+
+    // At either rate, the channel makes all its requests itself.
+    fn is_automatic(&self) -> bool
+        ensures { result ≡ nat_le (reqg self.now) 1 }
+    {
+        matches!(self.reqg(), Requests::LimitedRate | Requests::MaximumRate)
     }
 
     fn mac(&self) -> Option<Counting>
@@ -77,24 +88,28 @@ impl Config {
         counting(self.scr & 3)
     }
 
+    // Whether one cycle joins the device and memory, so that the device needs no address.
     pub fn is_single(&self) -> bool
         ensures { result ≡ is_single self.now }
     {
         self.dtyp() == DeviceType::Single
     }
 
+    // Whether a table says where the operation's blocks lie, as an array or as linked entries.
     pub fn is_chained(&self) -> bool
         ensures { result ≡ is_chained self.now }
     {
         self.chain() != Chain::Plain
     }
 
+    // Whether the entries of the operation's blocks lie one after the other.
     pub fn is_array(&self) -> bool
         ensures { result ≡ is_array self.now }
     {
         self.chain() == Chain::Array
     }
 
+    // Whether the request line asks while it is on, and not by a change from off to on.
     pub fn is_burst(&self) -> bool
         ensures { result ≡ is_burst self.now }
     {
@@ -112,15 +127,17 @@ impl Config {
     pub fn is_device_memory(&self) -> bool
         ensures { result ≡ is_device_memory self.now }
     {
-        self.dtyp() == DeviceType::Dual && self.reqg() == Requests::Automatic
+        self.dtyp() == DeviceType::Dual && self.is_automatic()
     }
 
+    // The size of an operand; a field that means nothing counts as a long.
     pub fn size(&self) -> Size
         ensures { result ≡ size_of self.now }
     {
         self.size_field().unwrap_or(Size::Long)
     }
 
+    // Where the operation's blocks come from; a field that means nothing counts as no chaining.
     pub fn chain(&self) -> Chain
         ensures { result ≡ chain_of self.now }
     {
@@ -198,10 +215,7 @@ impl Config {
     fn is_dual_unfit(&self) -> bool
         ensures { result ≡ is_dual_unfit self.now }
     {
-        !self.is_single()
-            && self.is_port16()
-            && self.size() == Size::Byte
-            && self.reqg() != Requests::Automatic
+        !self.is_single() && self.is_port16() && self.size() == Size::Byte && !self.is_automatic()
     }
 
     // Settings that no start takes, with or without the continue bit.
@@ -215,6 +229,7 @@ impl Config {
     }
 }
 
+// Whether an address is odd: no word may lie there.
 pub fn is_odd(address: u32) -> bool
     ensures { result ≡ odd address }
 {

@@ -2,6 +2,7 @@
 ghost use Rattle.std.specs.Prelude.{◌≡◌};
 ghost use Rattle.registers.specs.Fault.{code_of};
 
+// Each with its code; specs/Fault.antt says when it occurs.
 #[derive(Clone, Copy, PartialEq, Eq, Debug)]
 pub enum Fault {
     Configuration = 1,
@@ -18,7 +19,7 @@ pub enum Fault {
 }
 
 impl Fault {
-    // What the error register shows. By this name and no From, since a caller means the register.
+    // What the error register shows. A method and no From: its name says which number it is.
     pub fn code(self) -> u8
         ensures { result ≡ code_of self }
     {

@@ -37,6 +37,7 @@ pub struct Status {
     pub cer: u8,
 }
 
+// The control byte, of which the continue, halt and interrupt bits are stored.
 #[derive(Clone, Copy, PartialEq, Eq, Debug, Default)]
 pub struct Control {
     pub ccr: u8,
@@ -63,6 +64,7 @@ impl Default for Vectors {
     }
 }
 
+// All registers of a channel.
 #[derive(Clone, Copy, PartialEq, Eq, Debug, Default)]
 pub struct Registers {
     pub config: Config,
@@ -89,11 +91,12 @@ pub enum Chain {
     Linked,
 }
 
-// Where requests come from: from the channel itself, from the request line, or for an operation's first operand
-// from the channel and then from the line.
+// Where requests come from: from the channel itself, at a limited rate or at full speed; from the request line; or
+// for an operation's first operand from the channel and then from the line.
 #[derive(Clone, Copy, PartialEq, Eq, Debug)]
 pub enum Requests {
-    Automatic,
+    LimitedRate,
+    MaximumRate,
     Line,
     FirstAutomatic,
 }

@@ -5,6 +5,7 @@ ghost use Rattle.registers.specs.Status.{is_active, is_block_done, is_busy, fail
 use crate::fault::Fault;
 use crate::groups::Status;
 
+// The bits of the byte: operation complete, block complete, ended by the device, error and active.
 pub const COC: u8 = 0x80;
 
 pub const BLOCK: u8 = 0x40;
@@ -16,18 +17,21 @@ pub const ERR: u8 = 0x10;
 pub const ACT: u8 = 0x08;
 
 impl Status {
+    // Whether an operation is under way.
     pub fn is_active(&self) -> bool
         ensures { result ≡ is_active self.now }
     {
         self.csr & ACT != 0
     }
 
+    // Whether a block of a continued operation is complete.
     pub fn is_block_done(&self) -> bool
         ensures { result ≡ is_block_done self.now }
     {
         self.csr & BLOCK != 0
     }
 
+    // Whether something of an operation stands, so that none may start.
     pub fn is_busy(&self) -> bool
         ensures { result ≡ is_busy self.now }
     {
@@ -44,12 +48,14 @@ impl Status {
         self.csr = (self.csr | (COC | ERR)) & !ACT;
     }
 
+    // An operation starts.
     pub fn activate(&mut self)
         ensures { self.new ≡ activated self.old }
     {
         self.csr |= ACT;
     }
 
+    // The operation is complete.
     pub fn complete(&mut self)
         ensures { self.new ≡ completed self.old }
     {
@@ -63,6 +69,7 @@ impl Status {
         self.csr = (self.csr | (COC | NDT)) & !ACT;
     }
 
+    // A block is complete, and the operation goes on with the next.
     pub fn end_block(&mut self)
         ensures { self.new ≡ block_done self.old }
     {
