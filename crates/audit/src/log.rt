@@ -35,7 +35,7 @@ pub fn play<M: Memory, D: DeviceBank>(
 {
     let mut dmac = Dmac::new();
     for entry in log.iter_mut() {
-        entry.room = trace.capacity() - trace.len();
+        entry.room = trace.room();
         entry.reply = perform(&mut dmac, around, trace, entry.call);
     }
     dmac

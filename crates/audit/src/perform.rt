@@ -16,7 +16,7 @@ use dmac::controller::Dmac;
 use queue::Queue;
 use refusal::kinds::Refusal;
 
-// Makes the call.
+// Makes the call. (It stands apart from `perform`, since its proof is of the call alone; `perform` adds the law.)
 fn carry_out<M: Memory, D: DeviceBank>(
     dmac: &mut Dmac,
     around: &mut Surroundings<M, D>,

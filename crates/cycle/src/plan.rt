@@ -21,7 +21,8 @@ pub enum Side {
 }
 
 // One cycle of an operand: what it does, on which side, how far behind the side's address register, and whether it
-// moves a word or a byte.
+// moves a word or a byte. (`word` is a flag, since a cycle moves a word or a byte and nothing else, as the table has
+// it.)
 #[derive(Clone, Copy, PartialEq, Eq, Debug)]
 pub struct Slot {
     pub way: Way,
@@ -46,7 +47,6 @@ macro_rules! slot {
 // constants, since the controller has no memory in which to build one.)
 fn plan_wide(inward: bool, size: Size) -> &'static [Slot]
     ensures slots { result.now ≡ plan_wide inward size }
-    ensures few { length result.now ≤ 6 }
 {
     match (inward, size) {
         (false, Size::Byte) => &[
@@ -83,7 +83,6 @@ fn plan_wide(inward: bool, size: Size) -> &'static [Slot]
 // An 8-bit port: a byte a cycle on the device side.
 fn plan_narrow(inward: bool, size: Size) -> &'static [Slot]
     ensures slots { result.now ≡ plan_narrow inward size }
-    ensures few { length result.now ≤ 6 }
 {
     match (inward, size) {
         (false, Size::Byte) => &[
@@ -126,7 +125,6 @@ fn plan_narrow(inward: bool, size: Size) -> &'static [Slot]
 // Single addressing: memory and device together.
 fn plan_single(size: Size) -> &'static [Slot]
     ensures slots { result.now ≡ plan_single size }
-    ensures few { length result.now ≤ 6 }
 {
     match size {
         Size::Byte => &[slot!(Through, Memory, 0, false)],

@@ -21,19 +21,20 @@ pub enum Kind {
 
 impl Kind {
     // The letter that stands for it.
-    pub fn letter(self) -> u8
+    pub fn letter(self) -> char
         ensures { result ≡ kind_letter self }
     {
         match self {
-            Kind::Read => b'R',
-            Kind::Write => b'W',
-            Kind::Entry => b'B',
+            Kind::Read => 'R',
+            Kind::Write => 'W',
+            Kind::Entry => 'B',
         }
     }
 }
 
 // A cycle with the function code and the address that were sent (under single addressing those of the memory), or an
-// error in the place of one. (The two stand apart and not as a Place: a record is read, and no memory is asked by it.)
+// error in the place of one. (Code and address stand apart and not as a Place: the texts and the law read the two
+// singly.)
 #[derive(Clone, Copy, PartialEq, Eq, Debug)]
 pub enum Record {
     Cycle {
@@ -47,4 +48,12 @@ pub enum Record {
         channel: u8,
         fault: Fault,
     },
+}
+
+impl Record {
+    // What a place of a trace holds before a record is put there.
+    pub const BLANK: Record = Record::Error {
+        channel: 0,
+        fault: Fault::Configuration,
+    };
 }

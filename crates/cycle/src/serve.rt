@@ -25,8 +25,8 @@ pub enum Hindrance {
     Failed(Fault),
 }
 
-// How far an operand has come: the cycles done, the bytes held, and whether the device has signalled DONE. (A phase has
-// the same three only inside an operand; before the first cycle an operand has them too, and the channel is idle.)
+// How far an operand has come: the cycles done, the bytes held, and whether the device has signalled DONE. (It is no
+// part of the phase: the phase has its data in its cases, and before an operand's first cycle the channel is idle.)
 #[derive(Clone, Copy)]
 struct Progress {
     cycles: u8,

@@ -1,5 +1,5 @@
 -- A run: so many bus steps without an exception and without DONE, each record into a trace.
-use Rattle.std.specs.Prelude.{ℕ, zero, suc, ◌+◌, false, cond, not, ◌&&◌, List, [], ◌∷◌, ◌++◌, length, Some, None, Ok, Err, Option, Result, nat_lt}
+use Rattle.std.specs.Prelude.{ℕ, zero, suc, ◌+◌, false, cond, not, ◌&&◌, List, [], ◌∷◌, ◌++◌, length, Some, None, Ok, Err, Option, Result, nat_lt, codes}
 use Rattle.refusal.specs.declared.kinds.Refusal.{Refusal}
 use Rattle.refusal.specs.declared.kinds.Refusal.TheVariants.{TraceFull}
 use Rattle.cycle.specs.declared.record.Record.{Record}
@@ -8,6 +8,13 @@ use Rattle.dmac.specs.Step.{Machine, Stepped, step_chosen, Answer, Reset, Idle, 
 pub use Rattle.dmac.specs.declared.run.Ending.{Ending}
 pub use Rattle.dmac.specs.declared.run.Ending.TheVariants.{Done, Idle as FoundIdle, Waiting as FoundWaiting, Full}
 pub use Rattle.dmac.specs.declared.run.Ran.{Ran}
+
+-- The word that a run's ending is told as.
+abbrev pub ending_word : Ending → List ℕ
+ending_word Done = codes "done"
+ending_word FoundIdle = codes "idle"
+ending_word FoundWaiting = codes "waiting"
+ending_word Full = codes "full"
 
 -- Where a run has come to: the machine, the trace, and what it tells.
 pub record Running : Type 0 where

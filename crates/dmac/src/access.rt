@@ -28,22 +28,19 @@ fn register_of(offset: u8) -> Access
 fn register_after(offset: u8) -> Access
     ensures { result ≡ register_after offset }
 {
-    match offset.checked_add(1) {
-        Some(next) => register_of(next),
-        None => Access::Nowhere,
-    }
+    offset.checked_add(1).map_or(Access::Nowhere, register_of)
 }
 
 fn is_nowhere(access: Access) -> bool
     ensures { result ≡ is_nowhere access }
 {
-    matches!(access, Access::Nowhere)
+    access == Access::Nowhere
 }
 
 fn is_control(access: Access) -> bool
     ensures { result ≡ is_control access }
 {
-    matches!(access, Access::To(Register::Ccr))
+    access == Access::To(Register::Ccr)
 }
 
 fn is_no_word(offset: u8) -> bool
@@ -118,13 +115,12 @@ impl Dmac {
     fn reach_after(&self, offset: u8) -> Access
         ensures { result ≡ reach_after offset self.now }
     {
-        match offset.checked_add(1) {
-            Some(next) => self.reach_of(next),
-            None => Access::Nowhere,
-        }
+        offset
+            .checked_add(1)
+            .map_or(Access::Nowhere, |next| self.reach_of(next))
     }
 
-    // `Channel::write` takes the two halves and their bytes singly, so a struct for them would be taken apart at once.
+    // The halves and their bytes stay four parameters, as `written` has them: only two functions take them.
     fn take_in(&mut self, channel: u8, high: Access, high_value: u8, low: Access, low_value: u8)
         requires { channel < 4 }
         ensures { self.new ≡ taken_in channel high high_value low low_value self.old }

@@ -4,7 +4,9 @@ ghost use Rattle.dmac.specs.Controller.{new_controller, controller_reset};
 
 use channel::state::Channel;
 
-// `last` is the channel that was served last, and `bus` stands while the controller holds the bus.
+// `gcr` is the general control register, `last` is the channel that was served last, and `bus` stands while the
+// controller holds the bus. (A channel's number stays a u8, as calls, records and the choice give it; a type of its own
+// would be taken apart at each.)
 #[derive(PartialEq, Eq, Debug, Drop)]
 pub struct Dmac {
     pub(crate) channels: [Channel; 4],
@@ -14,6 +16,8 @@ pub struct Dmac {
 }
 
 impl Dmac {
+    // A new controller: four new channels, a general control register of 0, and the bus not held. (`last` begins at 3, as
+    // if channel 3 had been served, so that channel 0 is asked first.)
     pub fn new() -> Dmac
         ensures { result ≡ new_controller }
     {

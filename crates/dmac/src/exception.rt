@@ -4,7 +4,7 @@ ghost use Rattle.dmac.specs.Exception.{Decodes};
 use refusal::kinds::Refusal;
 
 // The controller is reset; the bus is given up and the cycle is to be retried; it is to be retried; a bus error; the
-// cycle is halted; or there is no exception.
+// cycle is halted; or there is no exception. (Absent is a case and no None: it is one of the codes, 7.)
 #[derive(Clone, Copy, PartialEq, Eq, Debug)]
 pub(crate) enum Exception {
     Reset,

@@ -6,7 +6,8 @@
 //     controller.read_word(0x44)?                  // 0x0012: device control high, operation control low
 //
 // Every call is refused, and then changes nothing, or does exactly what specs/ says: Controller (the state), Access
-// (register reads and writes), Examples (a table of worked examples, proved).
+// (register reads and writes), Line (the request lines), Step (the bus step, for the channel of Choice and under an
+// exception of Exception), Run (many steps, into a trace), Examples (a table of worked examples, proved).
 #![tactic(auto)]
 
 pub mod access;

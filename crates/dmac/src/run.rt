@@ -1,8 +1,8 @@
 // Runs: many bus steps in a row, into a trace.
-ghost use Rattle.std.specs.Prelude.{◌≡◌, ◌<◌, length};
+ghost use Rattle.std.specs.Prelude.{◌≡◌, ◌<◌, Some, length};
 ghost use Rattle.queue.specs.Queue.{held, capacity_of};
 ghost use Rattle.dmac.specs.Step.{Machine, machine_at};
-ghost use Rattle.dmac.specs.Run.{turned_by, turned, run_on, run_taken};
+ghost use Rattle.dmac.specs.Run.{turned_by, turned, run_on, run_taken, ending_word};
 
 use crate::answer::Answer;
 use crate::controller::Dmac;
@@ -13,6 +13,7 @@ use cycle::surroundings::Surroundings;
 use devices::bank::DeviceBank;
 use queue::Queue;
 use refusal::kinds::Refusal;
+use std::fmt;
 
 // Why a run ended: all steps are made, no channel wants the bus, a device is waited for, or the trace is full.
 #[derive(Clone, Copy, PartialEq, Eq, Debug)]
@@ -21,6 +22,19 @@ pub enum Ending {
     Idle,
     Waiting,
     Full,
+}
+
+impl fmt::Display for Ending {
+    ghost output = { λ e. Some (ending_word e) };
+
+    fn fmt<W: fmt::Write>(&self, f: &mut fmt::Formatter<W>) -> fmt::Result {
+        f.write_str(match self {
+            Ending::Done => "done",
+            Ending::Idle => "idle",
+            Ending::Waiting => "waiting",
+            Ending::Full => "full",
+        })
+    }
 }
 
 // What a run tells: why it ended, and how many records it added to the trace.

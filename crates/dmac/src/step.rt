@@ -18,7 +18,7 @@ use devices::bank::DeviceBank;
 use refusal::kinds::Refusal;
 use registers::fault::Fault;
 
-// What an exception code makes of the next cycle: it passes, and the controller then holds the bus or not; it is
+// What an exception makes of the next cycle: it passes, and the controller then holds the bus or not; it is
 // halted; it is to be retried, and the bus is held or not; or it is a bus error.
 #[derive(Clone, Copy, PartialEq, Eq, Debug)]
 pub enum Gate {
@@ -151,7 +151,8 @@ impl Dmac {
         }
     }
 
-    // One bus step: at most one cycle, of the channel whose turn it is. `done` is the DONE line.
+    // One bus step: at most one cycle, of the channel whose turn it is. `done` is the DONE line. (The exception comes as a
+    // number from outside, and one that is no code is refused.)
     pub fn step<M: Memory, D: DeviceBank>(
         &mut self,
         around: &mut Surroundings<M, D>,
@@ -169,7 +170,8 @@ impl Dmac {
         }
     }
 
-    // Sets a channel's request line on or off.
+    // Sets a channel's request line on or off. (The number is compared first: with `get_mut` in place of the comparison the
+    // proof of what the whole controller then is did not close.)
     pub fn set_line(&mut self, channel: u8, on: bool) -> Result<(), Refusal>
         ensures { record { state = self.new; answer = result } ≡ line_changed channel on self.old }
     {

@@ -1,5 +1,5 @@
 -- Each turn logs one entry; at the end all are logged, and tell a lawful history.
-use Rattle.std.proofs.Common.{ℕ, ◌-◌, ◌<◌, ◌≤◌, length, Ok, ◌∙◌, ap₂, arith}
+use Rattle.std.proofs.Common.{◌<◌, ◌≤◌, length, Ok, ◌∙◌, arith}
 use Rattle.queue.specs.Queue.{held, capacity_of}
 use Rattle.dmac.specs.Controller.{new_controller}
 use Rattle.dmac.specs.Step.{machine_at, machine_of}
@@ -12,7 +12,7 @@ pub loop-entry-preserved : goal.loop-entry-preserved
 loop-entry-preserved g c =
     let lt : c.loop-entry.entry-index < length c.loop-entry.log = omega (arith, c.loop-entry.auto.log) in (
       turn_again c.loop-entry.log c.loop-entry.entry-index (record { call = ReadByte 0; room = 0; reply = Ok (Byte 0) })
-          (capacity_of c.loop-entry.trace) (capacity_of c.perform-entry.new.trace) (c.capacity.result - c.len.result)
+          (capacity_of c.loop-entry.trace) (capacity_of c.perform-entry.new.trace) c.room-entry.result
           (machine_at g.M.Memory.means g.D.DeviceBank.bank c.loop-entry.dmac c.loop-entry.around)
           (held c.loop-entry.trace)
           (played (calls_of c.args.log.now) (capacity_of c.args.trace.now)
@@ -22,7 +22,7 @@ loop-entry-preserved g c =
             trace = held c.perform-entry.new.trace;
             reply = c.perform-entry.result;
           })
-          lt c.perform-entry.ensures.done (ap₂ (λ (a b : ℕ). a - b) c.capacity.ensures c.len.ensures.count) c.perform-entry.ensures.room c.loop-entry.invariant.0,
+          lt c.perform-entry.ensures.done c.room-entry.ensures c.perform-entry.ensures.room c.loop-entry.invariant.0,
       c.perform-entry.ensures.room ∙ c.loop-entry.invariant.1,
     )
 
