@@ -35,10 +35,7 @@ pub fn for_each_input<F: FnMut(&[u8]) -> anyhow::Result<()>>(
 {
     let mut names = env::args(rt)?.skip(1);
     let first = names.next();
-    let name = match &first {
-        Some(name) => name.as_str(),
-        None => "-",
-    };
+    let name = first.as_ref().map_or("-", |name| name.as_str());
     act(&input_of(rt, name, limit)?)?;
     for name in names {
         act(&input_of(rt, name.as_str(), limit)?)?;

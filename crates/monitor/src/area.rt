@@ -7,6 +7,7 @@ use bus::memory::{Memory, Place};
 use bus::store::{is_storable, store};
 use script::text::{DataBytes, data_count, put_pair};
 use std::alloc::AllocError;
+use std::ops::Range;
 
 // The function code of the processor's own data.
 const CODE: u8 = 5;
@@ -30,20 +31,26 @@ pub(crate) fn is_past_the_end(address: u32, count: usize) -> bool
     count > END || address as usize + count > END
 }
 
+// The addresses that the bytes of these digits go to, from `address` on.
+fn addresses(address: u32, digits: &[u8]) -> Range<u32>
+    requires { address + length (data_bytes digits.now) ≤ 0x1000 }
+    ensures { result ≡ record { start = address; end = address + length (data_bytes digits.now) } }
+{
+    address..address + data_count(digits) as u32
+}
+
 pub(crate) fn takes_all<M: Memory>(memory: &M, address: u32, digits: &[u8]) -> bool
     requires { address + length (data_bytes digits.now) ≤ 0x1000 }
     ensures { result ≡ takes_all address (data_bytes digits.now) (M.Memory.means memory.now) }
 {
-    let end = address + data_count(digits) as u32;
-    (address..end).all(|at| is_storable(memory, place(at)))
+    addresses(address, digits).all(|at| is_storable(memory, place(at)))
 }
 
 pub(crate) fn fill<M: Memory>(memory: &mut M, address: u32, digits: &[u8])
     requires { address + length (data_bytes digits.now) ≤ 0x1000 }
     ensures { M.Memory.means memory.new ≡ filled address (data_bytes digits.now) (M.Memory.means memory.old) }
 {
-    let end = address + data_count(digits) as u32;
-    for (at, byte) in (address..end).zip(DataBytes::of(digits)) {
+    for (at, byte) in addresses(address, digits).zip(DataBytes::of(digits)) {
         let _ = store(memory, place(at), byte);
     }
 }

@@ -31,6 +31,8 @@ use script::parse::parse;
 use script::text::{data_count, put_byte, put_newline, put_ok, put_refusal};
 use std::alloc::AllocError;
 
+// A controller and a memory on a board with no devices. Each method takes what is printed to as its parameter `out`: a
+// struct of monitor and `out` would hold both by `&mut`, and each method would also promise that it keeps the references.
 #[derive(Drop)]
 pub struct Monitor<M: Memory> {
     dmac: Dmac,
@@ -44,6 +46,7 @@ pub const SCRIPT: usize = 16384;
 const TRACE: usize = 128;
 
 impl<M: Memory> Monitor<M> {
+    // A new controller, and this memory as it is.
     pub fn new(memory: M) -> Monitor<M>
         ensures controller { result.dmac ≡ new_controller }
         ensures memory { result.around.memory ≡ memory }
@@ -140,7 +143,7 @@ impl<M: Memory> Monitor<M> {
         }
     }
 
-    // Carries out the lines of a script one after the other.
+    // Carries out the lines of a script one after the other. It stands apart from `run`, whose proof adds the history.
     fn carry_out(&mut self, script: &[u8], out: &mut Vec<u8>) -> Result<(), AllocError>
         ensures { OnOk result (session_at M.Memory.means self.new out.new.items ≡ script_done script.now (session_at M.Memory.means self.old out.old.items)) }
     {
@@ -152,7 +155,7 @@ impl<M: Memory> Monitor<M> {
 
     // Carries out the lines of a script one after the other, and adds what each prints to `out` (`printed`). Whatever
     // history of calls led from a new controller to this one and its memory goes on with the calls of the script, and
-    // lawfully (`history`). It fails only for want of memory for `out`.
+    // lawfully (`history`). It fails only for want of memory.
     pub fn run(&mut self, script: &[u8], out: &mut Vec<u8>) -> Result<(), AllocError>
         ensures printed { OnOk result (session_at M.Memory.means self.new out.new.items ≡ script_done script.now (session_at M.Memory.means self.old out.old.items)) }
         ensures history { OnOk result (ScriptGoesOn script.now (session_at M.Memory.means self.old out.old.items) (session_at M.Memory.means self.new out.new.items)) }

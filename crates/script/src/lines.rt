@@ -14,6 +14,7 @@ pub struct Lines<'a> {
 }
 
 impl<'a> Lines<'a> {
+    // The lines of this script, none of them read yet.
     pub fn of(script: &'a [u8]) -> Lines<'a>
         ensures { result.rest.now ≡ script.now }
     {
@@ -51,7 +52,7 @@ fn line_end(script: &[u8]) -> usize
 pub fn first_line<'a>(script: &'a [u8]) -> &'a [u8]
     ensures { result.now ≡ first_line script.now }
 {
-    script.split_at(line_end(script)).0
+    &script[..line_end(script)]
 }
 
 // What follows a first line that ends at the place `end`, and its newline.
@@ -59,7 +60,7 @@ pub fn after_line<'a>(script: &'a [u8], end: usize) -> &'a [u8]
     ensures { result.now ≡ drop (end + 1) script.now }
 {
     if end < script.len() {
-        script.split_at(end + 1).1
+        &script[end + 1..]
     } else {
         &[]
     }

@@ -6,14 +6,13 @@ use crate::command::Command;
 use crate::digits::{all_digits, digit};
 use refusal::kinds::Refusal;
 
-// The byte that two digits spell.
+// The byte that two digits spell; a byte that is no digit makes the line no command.
 fn pair(high: u8, low: u8) -> Result<u8, Refusal>
     ensures { result ≡ pair_at (high ∷ low ∷ []) 0 }
 {
-    match (digit(high), digit(low)) {
-        (Some(high), Some(low)) => Ok(16 * high + low),
-        _ => Err(Refusal::NoCommand),
-    }
+    let high = digit(high).ok_or(Refusal::NoCommand)?;
+    let low = digit(low).ok_or(Refusal::NoCommand)?;
+    Ok(16 * high + low)
 }
 
 // The address that six digits spell.

@@ -20,7 +20,7 @@ fn value(code: u8) -> u8
     digit(code).unwrap_or(0)
 }
 
-// The byte that two digits spell.
+// The byte that two digits spell, where a byte that is no digit counts 0.
 fn spelled(high: u8, low: u8) -> u8
     ensures { result ≡ 16 * digit_value high + digit_value low }
 {
@@ -34,6 +34,7 @@ pub struct DataBytes<'a> {
 }
 
 impl<'a> DataBytes<'a> {
+    // The bytes that these digits spell; a digit left over at the end spells none.
     pub fn of(digits: &'a [u8]) -> DataBytes<'a>
         ensures { result.digits.now ≡ digits.now }
     {
@@ -72,10 +73,9 @@ pub fn byte_at(digits: &[u8], index: usize) -> u8
     ensures { result ≡ slice_index (data_bytes digits.now) index }
 {
     let (pairs, _) = digits.as_chunks::<2>();
-    match pairs.get(index) {
-        Some([high, low]) => spelled(*high, *low),
-        None => 0,
-    }
+    pairs
+        .get(index)
+        .map_or(0, |[high, low]| spelled(*high, *low))
 }
 
 // A byte as two digits.
@@ -91,7 +91,8 @@ impl fmt::Display for Hex {
     }
 }
 
-// Adds a text to what `out` holds.
+// Adds a text to what `out` holds. By way of a String: `write!` onto a Vec fails by an io::Error, and here only want of
+// memory may.
 pub fn put<D: fmt::Display + Drop>(out: &mut Vec<u8>, text: D) -> Result<(), AllocError>
     ensures { OnOk result (AppendsText out.old.items out.new.items (D.output text)) }
 {
