@@ -24,7 +24,6 @@ use devices::none::NoDevices;
 use dmac::controller::Dmac;
 use queue::Queue;
 use refusal::kinds::Refusal;
-use registers::fault::Fault;
 use script::command::Command;
 use script::lines::Lines;
 use script::parse::parse;
@@ -120,10 +119,7 @@ impl<M: Memory> Monitor<M> {
     fn run_steps(&mut self, steps: u8, out: &mut Vec<u8>) -> Result<(), AllocError>
         ensures { OnOk result (session_at M.Memory.means self.new out.new.items ≡ run_done steps (session_at M.Memory.means self.old out.old.items)) }
     {
-        let mut slots = [Record::Error {
-            channel: 0,
-            fault: Fault::Configuration,
-        }; TRACE];
+        let mut slots = [Record::BLANK; TRACE];
         let mut trace = Queue::new(&mut slots);
         let reply = self.call(&mut trace, Call::Run(u16::from(steps)));
         put_run(reply, &trace, out)

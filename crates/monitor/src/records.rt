@@ -54,7 +54,7 @@ impl fmt::Display for Line {
                 address,
                 data,
             } => {
-                let letter = char::from(kind.letter());
+                let letter = kind.letter();
                 write!(
                     f,
                     "{:X} {letter} {}{}",
@@ -73,12 +73,7 @@ impl fmt::Display for Line {
 pub(crate) fn put_ending(out: &mut Vec<u8>, ending: Ending) -> Result<(), AllocError>
     ensures { OnOk result (out.new.items ≡ out.old.items ++ ending_text ending) }
 {
-    match ending {
-        Ending::Done => put(out, "done\n"),
-        Ending::Idle => put(out, "idle\n"),
-        Ending::Waiting => put(out, "waiting\n"),
-        Ending::Full => put(out, "full\n"),
-    }
+    put(out, format_args!("{ending}\n"))
 }
 
 // A line for each record, the oldest first.

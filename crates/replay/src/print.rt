@@ -2,7 +2,7 @@
 use audit::call::Reply;
 use cycle::record::{Data, Record};
 use dmac::answer::Answer;
-use dmac::run::{Ending, Ran};
+use dmac::run::Ran;
 use refusal::kinds::Refusal;
 use std::fmt;
 
@@ -43,7 +43,7 @@ impl fmt::Display for Shown<Record> {
                 address,
                 data,
             } => {
-                let letter = char::from(kind.letter());
+                let letter = kind.letter();
                 let address = address & 0xFFFFFF;
                 let bytes = Shown(data);
                 write!(f, "cycle {channel} {letter} {code} {address:06X} {bytes}")
@@ -66,17 +66,6 @@ impl fmt::Display for Shown<Answer> {
     }
 }
 
-impl fmt::Display for Shown<Ending> {
-    fn fmt<W: fmt::Write>(&self, f: &mut fmt::Formatter<W>) -> fmt::Result {
-        f.write_str(match self.0 {
-            Ending::Done => "done",
-            Ending::Idle => "idle",
-            Ending::Waiting => "waiting",
-            Ending::Full => "full",
-        })
-    }
-}
-
 impl fmt::Display for Shown<Reply> {
     fn fmt<W: fmt::Write>(&self, f: &mut fmt::Formatter<W>) -> fmt::Result {
         match self.0 {
@@ -84,7 +73,7 @@ impl fmt::Display for Shown<Reply> {
             Reply::Word(word) => write!(f, "{word:04X}"),
             Reply::Done => f.write_str("ok"),
             Reply::Stepped(answer) => write!(f, "{}", Shown(answer)),
-            Reply::Ended(Ran { ending, records }) => write!(f, "{} {records}", Shown(ending)),
+            Reply::Ended(Ran { ending, records }) => write!(f, "{ending} {records}"),
         }
     }
 }
