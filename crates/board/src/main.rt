@@ -13,6 +13,7 @@ use std::io::Write;
 // Runs a script on a new board, with 4,096 memory bytes of 0, and prints what it answers.
 fn run(rt: &HostRuntime, script: &[u8]) -> anyhow::Result<()> {
     let mut bytes = [0u8; 4096];
+    // A `map_err` gets no proof here, since the memory and the refused bytes are one borrow.
     let Ok(memory) = Flat::new(&mut bytes) else {
         return Err(anyhow!("the board's memory is too large"));
     };

@@ -14,6 +14,8 @@ pub enum Line {
     Ask(Question),
 }
 
+// What is asked: the registers of a channel, the general control register, bytes of the memory from a place on, all bytes
+// of a part of the memory, or what the device of a channel has.
 #[derive(Clone, Copy)]
 pub enum Question {
     Registers { channel: u8 },

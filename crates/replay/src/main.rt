@@ -22,7 +22,7 @@ mod setup;
 use crate::device::Device;
 use crate::fields::LineError;
 use crate::line::parse;
-use crate::player::{Four, Player, Single};
+use crate::player::{Four, Player, Single, UPPER};
 use crate::setup::{Contents, Medium, bank, memory, trace};
 use anyhow::anyhow;
 use bus::flat::Flat;
@@ -162,7 +162,8 @@ impl<'a, W: Write + Drop> Sequence<'a, W> {
         Ok(())
     }
 
-    // Plays the sequence: first the lines that set up, then the calls.
+    // Plays the sequence: first the lines that set up, then the calls. A sequence that ends before it is set up plays
+    // nothing, and that is no error.
     fn play(&mut self) -> anyhow::Result<()> {
         let Some(contents) = self.set_up(memory)? else {
             return Ok(());
@@ -183,7 +184,7 @@ impl<'a, W: Write + Drop> Sequence<'a, W> {
                     upper: flat(&mut upper)?,
                     lower: flat(&mut lower)?,
                 };
-                self.play_with(split, Some(5), media, places)
+                self.play_with(split, Some(UPPER), media, places)
             }
         }
     }

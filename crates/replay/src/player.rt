@@ -16,11 +16,13 @@ use queue::{Queue, move_oldest};
 use std::io;
 use std::io::Write;
 
+// The device of one channel.
 pub type Single<'a> = Device<Tape<'a>, Printer<'a>>;
 
-// The devices of two channels, and of all four.
+// The devices of two channels.
 pub type Two<'a> = Pair<Single<'a>, Single<'a>>;
 
+// The devices of all four channels.
 pub type Four<'a> = Pair<Two<'a>, Two<'a>>;
 
 // The offset of the general control register.
@@ -49,6 +51,9 @@ const SHOWN: [(u8, u8); 17] = [
 
 // A function code of a memory's lower part, or of its only one.
 const LOWER: u8 = 1;
+
+// A function code of a memory's upper part.
+pub const UPPER: u8 = 5;
 
 // No address is at or above this one.
 const ADDRESSES: u32 = PLACES as u32;
@@ -118,7 +123,7 @@ impl<'a, M: Memory> Player<'a, M> {
         Ok(())
     }
 
-    // A register of so many bytes.
+    // A register of so many bytes. The last offset is $FF, so that a range of offsets would end past a u8.
     fn register<W: Write>(&self, offset: u8, width: u8, out: &mut W) -> io::Result<()> {
         for byte in 0..width {
             let read = self.dmac.read_byte(offset.wrapping_add(byte));
@@ -142,10 +147,8 @@ impl<'a, M: Memory> Player<'a, M> {
 
     // All bytes that a function code names.
     fn all_bytes<W: Write>(&self, code: u8, out: &mut W) -> io::Result<()> {
-        for address in 0..ADDRESSES {
-            let Some(byte) = self.around.memory.read(Place { code, address }) else {
-                break;
-            };
+        let memory = &self.around.memory;
+        for byte in (0..ADDRESSES).map_while(|address| memory.read(Place { code, address })) {
             write!(out, "{byte:02X}")?;
         }
         Ok(())

@@ -11,33 +11,24 @@ use refusal::kinds::Refusal;
 use registers::fault::Fault;
 use std::test::Fail;
 
-// The calls of a history: channel 0 brings two bytes in from a tape to $10, and a third one is not there.
-const CALLS: [Call; 8] = [
-    Call::WriteWord(0x04, 0x1080),
-    Call::WriteByte(0x06, 0x04),
-    Call::WriteWord(0x0A, 3),
-    Call::WriteWord(0x0E, 0x0010),
-    Call::WriteByte(0x07, 0x80),
-    Call::Run(9),
-    Call::ReadWord(0x0A),
-    Call::WriteByte(0x02, 0),
-];
-
-const REPLIES: [(usize, Result<Reply, Refusal>); 8] = [
-    (6, Ok(Reply::Done)),
-    (6, Ok(Reply::Done)),
-    (6, Ok(Reply::Done)),
-    (6, Ok(Reply::Done)),
-    (6, Ok(Reply::Done)),
+// The calls of a history: channel 0 brings two bytes in from a tape to $10, and a third one is not there. Beside each call
+// stand the room of the trace before it and what it replies.
+const HISTORY: [(Call, usize, Result<Reply, Refusal>); 8] = [
+    (Call::WriteWord(0x04, 0x1080), 6, Ok(Reply::Done)),
+    (Call::WriteByte(0x06, 0x04), 6, Ok(Reply::Done)),
+    (Call::WriteWord(0x0A, 3), 6, Ok(Reply::Done)),
+    (Call::WriteWord(0x0E, 0x0010), 6, Ok(Reply::Done)),
+    (Call::WriteByte(0x07, 0x80), 6, Ok(Reply::Done)),
     (
+        Call::Run(9),
         6,
         Ok(Reply::Ended(Ran {
             ending: Ending::Waiting,
             records: 4,
         })),
     ),
-    (2, Ok(Reply::Word(1))),
-    (2, Err(Refusal::NoRegister)),
+    (Call::ReadWord(0x0A), 2, Ok(Reply::Word(1))),
+    (Call::WriteByte(0x02, 0), 2, Err(Refusal::NoRegister)),
 ];
 
 #[test]
@@ -56,7 +47,7 @@ fn a_log_is_filled_in(rt: HostRuntime) -> Result<(), Fail> {
         room: 0,
         reply: Ok(Reply::Done),
     }; 8];
-    for (entry, call) in log.iter_mut().zip(CALLS.iter()) {
+    for (entry, (call, _, _)) in log.iter_mut().zip(HISTORY.iter()) {
         entry.call = *call;
     }
     let controller = play(&mut log, &mut around, &mut trace);
@@ -68,8 +59,10 @@ fn a_log_is_filled_in(rt: HostRuntime) -> Result<(), Fail> {
         }),
         Some(b'b')
     );
-    for (entry, reply) in log.iter().zip(REPLIES.iter()) {
-        assert_eq!(rt; (entry.room, entry.reply), *reply);
+    for (entry, (_, room, reply)) in log.iter().zip(HISTORY.iter()) {
+        assert_eq!(rt; entry.room, *room);
+        assert_eq!(rt; entry.reply, *reply);
     }
+    assert_eq!(rt; Refusal::NoRegister.number(), 1);
     Ok(())
 }
