@@ -36,17 +36,10 @@ use devices::tape::Tape;
 use dmac::controller::Dmac;
 use inputs::for_each_input;
 use queue::Queue;
-use registers::fault::Fault;
 use script::lines::Lines;
 use std::alloc::{AllocError, Global};
 use std::io;
 use std::io::{BufWriter, Write};
-
-// What a place of a trace holds before a record is put there.
-const BLANK: Record = Record::Error {
-    channel: 0,
-    fault: Fault::Configuration,
-};
 
 const TOO_LARGE: &str = "the memory is too large";
 
@@ -95,7 +88,7 @@ fn four_lent<'a>(
 
 // The places of a trace.
 fn blanks(heap: Global, places: usize) -> Result<Vec<Record>, AllocError> {
-    vec![in heap; BLANK; places]
+    vec![in heap; Record::BLANK; places]
 }
 
 // A memory over these bytes. A `map_err` gets no proof here, since the memory and the refused bytes are one borrow.

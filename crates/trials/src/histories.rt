@@ -8,7 +8,6 @@ use devices::tape::Tape;
 use dmac::run::{Ending, Ran};
 use queue::Queue;
 use refusal::kinds::Refusal;
-use registers::fault::Fault;
 use std::test::Fail;
 
 // The calls of a history: channel 0 brings two bytes in from a tape to $10, and a third one is not there. Beside each call
@@ -34,13 +33,13 @@ const HISTORY: [(Call, usize, Result<Reply, Refusal>); 8] = [
 #[test]
 fn a_log_is_filled_in(rt: HostRuntime) -> Result<(), Fail> {
     let mut bytes = [0u8; 32];
-    let memory = flat(&mut bytes)?;
-    let devices = Tape::new(0, b"ab");
-    let mut around = Surroundings { memory, devices };
-    let mut slots = [Record::Error {
-        channel: 0,
-        fault: Fault::Abort,
-    }; 6];
+    let mut memory = flat(&mut bytes)?;
+    let mut devices = Tape::new(0, b"ab");
+    let mut around = Surroundings {
+        memory: &mut memory,
+        devices: &mut devices,
+    };
+    let mut slots = [Record::BLANK; 6];
     let mut trace = Queue::new(&mut slots);
     let mut log = [Entry {
         call: Call::Run(0),
@@ -53,7 +52,7 @@ fn a_log_is_filled_in(rt: HostRuntime) -> Result<(), Fail> {
     let controller = play(&mut log, &mut around, &mut trace);
     assert_eq!(rt; controller.read_word(0x0E)?, 0x0012);
     assert_eq!(rt;
-        around.memory.read(Place {
+        memory.read(Place {
             code: 5,
             address: 0x11
         }),
