@@ -27,7 +27,7 @@ fn error(channel: u8, fault: Fault) -> Answer {
 }
 
 // A memory over these bytes. A `map_err` gets no proof here, since the memory and the refused bytes are one borrow.
-pub fn flat<'a>(bytes: &'a mut [u8]) -> Result<Flat<'a>, Fail> {
+pub(crate) fn flat<'a>(bytes: &'a mut [u8]) -> Result<Flat<'a>, Fail> {
     match Flat::new(bytes) {
         Ok(memory) => Ok(memory),
         Err(_) => Err(Fail::new("memory")),
