@@ -4,7 +4,7 @@ use dmac::run::Ran;
 
 // A call of the controller: a register byte or word read (offset) or written (offset, value), a request line set
 // (channel, level), a bus step (exception code, DONE), a byte stored for the processor (function code, address, value),
-// or a run of so many steps. (A store's place is two numbers, as in the worked histories.)
+// or a run of so many steps. (A store's place is two numbers, as the definitions of histories have it.)
 #[derive(Clone, Copy, PartialEq, Eq, Debug)]
 pub enum Call {
     ReadByte(u8),

@@ -26,6 +26,7 @@ fn carry_out<M: Memory, D: DeviceBank>(
     ensures done { record { machine = machine_at M.Memory.means D.DeviceBank.bank dmac.new around.new; trace = held trace.new; reply = result } ≡ performed call (capacity_of trace.old) (machine_at M.Memory.means D.DeviceBank.bank dmac.old around.old) (held trace.old) }
     ensures room { capacity_of trace.new ≡ capacity_of trace.old }
 {
+    // Each arm is another function, with data of its own.
     match call {
         Call::ReadByte(offset) => dmac.read_byte(offset).map(Reply::Byte),
         Call::ReadWord(offset) => dmac.read_word(offset).map(Reply::Word),

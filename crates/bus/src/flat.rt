@@ -42,6 +42,7 @@ impl<'a> Memory for Flat<'a> {
         self.holds(place)
     }
 
+    // By an index, as in `write`: it is one byte that is meant.
     fn read(&self, place: Place) -> Option<u8> {
         self.holds(place)
             .then(|| self.bytes[place.address as usize])

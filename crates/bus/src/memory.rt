@@ -40,6 +40,7 @@ pub trait Memory {
     fn write(&mut self, place: Place, byte: u8)
         ensures { means self.new ≡ byte_written place.code place.address byte (means self.old) };
 
+    // A word is answered whole or not at all, so it has methods of its own and is no two bytes.
     fn is_word_readable(&self, place: Place) -> bool
         ensures { result ≡ is_word_readable place.code place.address (means self.now) }
     {

@@ -1,6 +1,7 @@
 use crate::choose;
 
-// Channels of equal priority take turns, and one that is alone is served again.
+// Channels of equal priority take turns, and one that is alone is served again. (Here and below each loop is over the
+// channel that was served last, which is the input.)
 #[test]
 fn equals_take_turns(rt: HostRuntime) {
     for last in 0..4u8 {

@@ -21,8 +21,7 @@ pub enum Side {
 }
 
 // One cycle of an operand: what it does, on which side, how far behind the side's address register, and whether it
-// moves a word or a byte. (`word` is a flag, since a cycle moves a word or a byte and nothing else, as the table has
-// it.)
+// moves a word or a byte. (`word` is a flag, as specs/Plan.antt has it.)
 #[derive(Clone, Copy, PartialEq, Eq, Debug)]
 pub struct Slot {
     pub way: Way,
@@ -43,8 +42,8 @@ macro_rules! slot {
     };
 }
 
-// A 16-bit port: one cycle on each side for each portion. (Both directions are written out: a plan is lent from
-// constants, since the controller has no memory in which to build one.)
+// A 16-bit port: one cycle on each side for each portion. (Each row stands as in specs/Plan.antt, in both
+// directions: it is lent from constants, since a list that is built needs a heap or a length beside it.)
 fn plan_wide(inward: bool, size: Size) -> &'static [Slot]
     ensures slots { result.now ≡ plan_wide inward size }
 {

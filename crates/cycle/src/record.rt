@@ -20,7 +20,7 @@ pub enum Kind {
 }
 
 impl Kind {
-    // The letter that stands for it.
+    // The letter that stands for it. (A method and no Display: it is one letter in texts of several forms.)
     pub fn letter(self) -> char
         ensures { result ≡ kind_letter self }
     {

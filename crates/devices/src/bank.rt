@@ -29,7 +29,7 @@ pub trait DeviceBank {
     fn take(&mut self, channel: u8, byte: u8)
         ensures { bank self.new ≡ take_tried channel (byte ∷ []) (bank self.old) };
 
-    // Hands over two bytes, the high one first, if two wait.
+    // Hands over two bytes, the high one first, if two wait. (Both or none: so a word has methods of its own.)
     fn give_word(&mut self, channel: u8) -> Option<(u8, u8)>
         ensures word { result ≡ word_handed channel (bank self.old) }
         ensures after { bank self.new ≡ give_tried channel 2 (bank self.old) }

@@ -84,7 +84,7 @@ impl Dmac {
         }
     }
 
-    // A register byte.
+    // A register byte. (A word has refusals of its own, and one barred half bars both: so bytes and words have calls each.)
     pub fn read_byte(&self, offset: u8) -> Result<u8, Refusal>
         ensures { result ≡ byte_read offset self.now }
     {
@@ -112,6 +112,7 @@ impl Dmac {
         self.channels[channel as usize].reach(channel, offset_within(offset))
     }
 
+    // (`register_after` asks the table, and this one the channel.)
     fn reach_after(&self, offset: u8) -> Access
         ensures { result ≡ reach_after offset self.now }
     {

@@ -6,7 +6,8 @@ use channel::state::Channel;
 
 // `gcr` is the general control register, `last` is the channel that was served last, and `bus` stands while the
 // controller holds the bus. (A channel's number stays a u8, as calls, records and the choice give it; a type of its own
-// would be taken apart at each.)
+// would be taken apart at each. Surroundings and trace are lent to each call: a struct of the three would hold all by
+// `&mut`, and each call would promise to keep them.)
 #[derive(PartialEq, Eq, Debug, Drop)]
 pub struct Dmac {
     pub(crate) channels: [Channel; 4],

@@ -129,6 +129,7 @@ impl<M: Memory> Monitor<M> {
     fn line(&mut self, line: &[u8], out: &mut Vec<u8>) -> Result<(), AllocError>
         ensures { OnOk result (session_at M.Memory.means self.new out.new.items ≡ line_done line.now (session_at M.Memory.means self.old out.old.items)) }
     {
+        // Each arm is another function, with data of its own.
         match parse(line) {
             Ok(Command::Write { offset, value }) => self.write(offset, value, out),
             Ok(Command::Read { offset }) => self.read(offset, out),

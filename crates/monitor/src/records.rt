@@ -25,7 +25,7 @@ impl fmt::Display for Bytes {
     }
 }
 
-// An address, and a blank.
+// An address, and a blank. Its digits go byte by byte, as `address_text` has them.
 #[derive(Clone, Copy)]
 struct Address(u32);
 

@@ -104,6 +104,7 @@ impl<'a, T: Copy> Queue<'a, T> {
     pub fn get(&self, index: usize) -> Option<T>
         ensures { result ≡ item_at (held self.now) index }
     {
+        // By an index, as in `push`: it is one slot that is meant.
         if index < self.len() {
             Some(self.slots[self.slot(index)])
         } else {

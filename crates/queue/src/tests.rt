@@ -19,12 +19,8 @@ const B: Entry = Entry {
 
 // Pushes the items in turn, and says how many were taken.
 fn push_all<T: Copy>(queue: &mut Queue<'_, T>, items: &[T]) -> usize {
-    for (index, item) in items.iter().enumerate() {
-        if !queue.push(*item) {
-            return index;
-        }
-    }
-    items.len()
+    let refused = items.iter().position(|item| !queue.push(*item));
+    refused.unwrap_or(items.len())
 }
 
 // Over three slots: three of the first four items are taken, two go, and two of the others wrap round.

@@ -7,7 +7,7 @@ ghost use Rattle.registers.specs.Config.{mode_of, device_type_of, is_port16, siz
 use crate::groups::{Chain, Config, Counting, DeviceType, RequestMode, Requests, Size};
 
 impl Config {
-    // No TryFrom: what a number means belongs to its field, and not to the kind.
+    // No TryFrom: what a number means belongs to its field, and there is no error to tell.
     fn xrm(&self) -> Option<RequestMode>
         ensures { result ≡ mode_of self.now }
     {

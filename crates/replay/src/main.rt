@@ -74,7 +74,7 @@ fn lent<'a>(channel: u8, medium: &'a mut Medium) -> Single<'a> {
     }
 }
 
-// The devices of the four channels.
+// The devices of the four channels. (Four parameters: an array behind a `&mut` can't be taken apart into four of them.)
 fn four_lent<'a>(
     first: &'a mut Medium,
     second: &'a mut Medium,
@@ -91,7 +91,8 @@ fn blanks(heap: Global, places: usize) -> Result<Vec<Record>, AllocError> {
     vec![in heap; Record::BLANK; places]
 }
 
-// A memory over these bytes. A `map_err` gets no proof here, since the memory and the refused bytes are one borrow.
+// A memory over these bytes, or an error of this program's own. A `map_err` gets no proof here, since the memory and the
+// refused bytes are one borrow.
 fn flat<'a>(bytes: &'a mut [u8]) -> anyhow::Result<Flat<'a>> {
     match Flat::new(bytes) {
         Ok(memory) => Ok(memory),

@@ -72,6 +72,7 @@ pub struct Player<'a, M: Memory> {
 impl<'a, M: Memory> Player<'a, M> {
     // Does what a line says, and prints the answer.
     pub fn play<W: Write>(&mut self, line: Line, out: &mut W) -> io::Result<()> {
+        // Each arm is another function, with data of its own; so in `tell`.
         match line {
             Line::Make(call) => self.make(call, out),
             Line::Empty { count } => self.empty(count as usize, out),
@@ -123,7 +124,7 @@ impl<'a, M: Memory> Player<'a, M> {
         Ok(())
     }
 
-    // A register of so many bytes. The last offset is $FF, so that a range of offsets would end past a u8.
+    // A register of so many bytes. They are counted from 0, since nothing here bounds an offset and a width together.
     fn register<W: Write>(&self, offset: u8, width: u8, out: &mut W) -> io::Result<()> {
         for byte in 0..width {
             let read = self.dmac.read_byte(offset.wrapping_add(byte));
@@ -132,7 +133,8 @@ impl<'a, M: Memory> Player<'a, M> {
         Ok(())
     }
 
-    // The bytes from a place on; two hyphens for one that is not answered.
+    // The bytes from a place on; two hyphens for one that is not answered. (An address and a count may end past a u32, so
+    // that they are no range.)
     fn peek<W: Write>(&self, place: Place, count: u32, out: &mut W) -> io::Result<()> {
         let mut at = place;
         for _ in 0..count.min(ADDRESSES) {
@@ -176,7 +178,8 @@ impl<'a, M: Memory> Player<'a, M> {
     }
 }
 
-// What a printer keeps, a hyphen where that is nothing, and how many places are free.
+// What a printer keeps, a hyphen where that is nothing, and how many places are free. (The page may lie in two parts, so
+// that it is no slice to show.)
 fn put_page<W: Write>(page: &Queue<'_, u8>, out: &mut W) -> io::Result<()> {
     if page.is_empty() {
         write!(out, "-")?;

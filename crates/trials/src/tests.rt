@@ -26,7 +26,8 @@ fn error(channel: u8, fault: Fault) -> Answer {
     Answer::Recorded(Record::Error { channel, fault })
 }
 
-// A memory over these bytes. A `map_err` gets no proof here, since the memory and the refused bytes are one borrow.
+// A memory over these bytes, or an error of this program's own. A `map_err` gets no proof here, since the memory and the
+// refused bytes are one borrow.
 pub(crate) fn flat<'a>(bytes: &'a mut [u8]) -> Result<Flat<'a>, Fail> {
     match Flat::new(bytes) {
         Ok(memory) => Ok(memory),
