@@ -17,6 +17,7 @@ use cycle::surroundings::Surroundings;
 use devices::bank::DeviceBank;
 use refusal::kinds::Refusal;
 use registers::fault::Fault;
+use std::array;
 
 // What an exception makes of the next cycle: it passes, and the controller then holds the bus or not; it is
 // halted; it is to be retried, and the bus is held or not; or it is a bus error.
@@ -55,13 +56,13 @@ impl Dmac {
     fn counting(&self) -> [bool; 4]
         ensures { result ≡ counting_of self.now }
     {
-        self.channels.map(|channel| channel.is_counting())
+        array::from_fn(|n| self.channels[n].is_counting())
     }
 
     fn priorities(&self) -> [u8; 4]
         ensures { result ≡ priorities_of self.now }
     {
-        self.channels.map(|channel| channel.registers.vectors.cpr)
+        array::from_fn(|n| self.channels[n].registers.vectors.cpr)
     }
 
     // The channel that the next cycle is for.
