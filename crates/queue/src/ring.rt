@@ -37,7 +37,7 @@ impl<'a, T: Copy> Queue<'a, T> {
         ensures count { result ≡ length (held self.now) }
         ensures within { result ≤ capacity_of self.now }
     {
-        self.len
+        self.len // never above the number of slots
     }
 
     // How many elements it can hold.
