@@ -24,7 +24,7 @@ module _ (counts : List Bool) (priorities : List ℕ) (last : ℕ) where
   ahead_priority p a d h q = grind arith
 
   -- The first that asks is the one to serve.
-  ahead_wins : (p k : ℕ) → k < 4 → (c : ℕ) → c ≡ channel_at last k → true ≡ asks counts priorities p c → Ahead p k
+  pub ahead_wins : (p k : ℕ) → k < 4 → (c : ℕ) → c ≡ channel_at last k → true ≡ asks counts priorities p c → Ahead p k
       → Wins counts priorities last c
   ahead_wins p k h c i e a = search rules
 
