@@ -23,7 +23,7 @@ use Rattle.dmac.specs.Controller.{new_controller, channel_at}
 use Rattle.dmac.specs.Access.{Outcome as Answered, register_of, register_after, reach_of, reach_after, is_nowhere, is_general, is_control, is_no_word, starts_by_word, word_refusal, taken_in, word_taken_in, word_written_by}
 use Rattle.dmac.specs.Choice.{chosen}
 use Rattle.dmac.specs.Step.{Machine}
-use Rattle.audit.specs.Calls.{Call, ReadByte, ReadWord, WriteByte, WriteWord, SetLine, Step, Store, Called, Stepped, done_replied, replied, with_dmac, byte_read_called, word_read_called, byte_write_called, word_write_called, line_called, step_called, store_called}
+use Rattle.audit.specs.Calls.{Call, ReadByte, ReadWord, WriteByte, WriteWord, SetLine, Step, Store, Called, Stepped, done_replied, replied, with_dmac, byte_write_called, word_write_called, line_called, step_called, store_called}
 use Rattle.audit.specs.Book.{Book, half_noted, is_done, step_noted, call_noted, settled_before, book_fed}
 use Rattle.audit.specs.History.{Past, beginning, registers_of, noted}
 use Rattle.audit.proofs.Basics.{no, at_set_alone}
@@ -146,13 +146,13 @@ settled_kept s B g = record { four = g.four; each = λ n h. inv_settled (channel
 abbrev After : Call → Called → Past → Type 0
 After c o p = Kept (noted c o p).machine (noted c o p).books
 
-pub read_byte_kept : (o : ℕ) (p : Past) → Kept p.machine p.books → After (ReadByte o) (byte_read_called o p.machine) p
+pub read_byte_kept : (o : ℕ) (x : Called) (p : Past) → x.machine ≡ p.machine → Kept p.machine p.books → After (ReadByte o) x p
 unfolding book_fed
-read_byte_kept o p g = settled_kept p.machine p.books g
+read_byte_kept o x p e g = subst (λ (s : Machine). Kept s (λ n. settled_before (registers_of n p.machine) (p.books n))) (sym e) (settled_kept p.machine p.books g)
 
-pub read_word_kept : (o : ℕ) (p : Past) → Kept p.machine p.books → After (ReadWord o) (word_read_called o p.machine) p
+pub read_word_kept : (o : ℕ) (x : Called) (p : Past) → x.machine ≡ p.machine → Kept p.machine p.books → After (ReadWord o) x p
 unfolding book_fed
-read_word_kept o p g = settled_kept p.machine p.books g
+read_word_kept o x p e g = subst (λ (s : Machine). Kept s (λ n. settled_before (registers_of n p.machine) (p.books n))) (sym e) (settled_kept p.machine p.books g)
 
 pub write_byte_kept : (o v : ℕ) (p : Past) → Kept p.machine p.books → After (WriteByte o v) (byte_write_called o v p.machine) p
 unfolding book_fed

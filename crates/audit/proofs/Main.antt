@@ -89,9 +89,9 @@ holds_run m (suc n) (suc room) p h =
 
 holds_called : (m : MemoryMeaning) (c : Call) (room : ℕ) (p : Past) → Holds m p → Holds m (called c room p)
 holds_called m (ReadByte o) room p h =
-    holds_noted m (ReadByte o) (byte_read_called o p.machine) p h (read_byte_kept o p h.kept) refl (λ s a. inl refl)
+    holds_noted m (ReadByte o) (byte_read_called o p.machine) p h (read_byte_kept o (byte_read_called o p.machine) p refl h.kept) refl (λ s a. inl refl)
 holds_called m (ReadWord o) room p h =
-    holds_noted m (ReadWord o) (word_read_called o p.machine) p h (read_word_kept o p h.kept) refl (λ s a. inl refl)
+    holds_noted m (ReadWord o) (word_read_called o p.machine) p h (read_word_kept o (word_read_called o p.machine) p refl h.kept) refl (λ s a. inl refl)
 holds_called m (WriteByte o v) room p h =
     holds_noted m (WriteByte o v) (byte_write_called o v p.machine) p h (write_byte_kept o v p h.kept) refl (λ s a. inl refl)
 holds_called m (WriteWord o v) room p h =
