@@ -1,6 +1,7 @@
 // Whole histories, played from a new controller.
 ghost use Rattle.std.specs.Prelude.{◌≡◌};
 ghost use Rattle.queue.specs.Queue.{held, capacity_of};
+ghost use Rattle.cycle.specs.Surroundings.{loans_of};
 ghost use Rattle.dmac.specs.Controller.{new_controller};
 ghost use Rattle.dmac.specs.Step.{machine_at};
 ghost use Rattle.audit.specs.Played.{calls_of, events_of, played, Lawfully};
@@ -32,6 +33,7 @@ pub fn play<M: Memory, D: DeviceBank>(
 ) -> Dmac
     ensures played { record { machine = machine_at M.Memory.means D.DeviceBank.bank result around.new; trace = held trace.new; entries = log.new } ≡ played (calls_of log.old) (capacity_of trace.old) (machine_at M.Memory.means D.DeviceBank.bank new_controller around.old) (held trace.old) }
     ensures lawful { Lawfully (M.Memory.means around.old.memory) (D.DeviceBank.bank around.old.devices) (events_of log.new) (machine_at M.Memory.means D.DeviceBank.bank result around.new) }
+    ensures lent { loans_of M.Memory.loans D.DeviceBank.loans around.new ≡ loans_of M.Memory.loans D.DeviceBank.loans around.old }
 {
     let mut dmac = Dmac::new();
     for entry in log.iter_mut() {

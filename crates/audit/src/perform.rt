@@ -1,6 +1,7 @@
 // Making a call that is given as a value.
 ghost use Rattle.std.specs.Prelude.{◌≡◌};
 ghost use Rattle.queue.specs.Queue.{held, capacity_of};
+ghost use Rattle.cycle.specs.Surroundings.{loans_of};
 ghost use Rattle.dmac.specs.Step.{machine_at};
 ghost use Rattle.audit.specs.Calls.{performed};
 ghost use Rattle.audit.specs.Law.{Law};
@@ -25,6 +26,7 @@ fn carry_out<M: Memory, D: DeviceBank>(
 ) -> Result<Reply, Refusal>
     ensures done { record { machine = machine_at M.Memory.means D.DeviceBank.bank dmac.new around.new; trace = held trace.new; reply = result } ≡ performed call (capacity_of trace.old) (machine_at M.Memory.means D.DeviceBank.bank dmac.old around.old) (held trace.old) }
     ensures room { capacity_of trace.new ≡ capacity_of trace.old }
+    ensures lent { loans_of M.Memory.loans D.DeviceBank.loans around.new ≡ loans_of M.Memory.loans D.DeviceBank.loans around.old }
 {
     // Each arm is another function, with data of its own.
     match call {
@@ -52,6 +54,7 @@ pub fn perform<M: Memory, D: DeviceBank>(
 ) -> Result<Reply, Refusal>
     ensures done { record { machine = machine_at M.Memory.means D.DeviceBank.bank dmac.new around.new; trace = held trace.new; reply = result } ≡ performed call (capacity_of trace.old) (machine_at M.Memory.means D.DeviceBank.bank dmac.old around.old) (held trace.old) }
     ensures room { capacity_of trace.new ≡ capacity_of trace.old }
+    ensures lent { loans_of M.Memory.loans D.DeviceBank.loans around.new ≡ loans_of M.Memory.loans D.DeviceBank.loans around.old }
     ensures history { GoesOn (machine_at M.Memory.means D.DeviceBank.bank dmac.old around.old) (event_of call (capacity_of trace.old) (held trace.old)) (machine_at M.Memory.means D.DeviceBank.bank dmac.new around.new) }
     ensures law { Law }
 {

@@ -1,5 +1,6 @@
 // A memory, by what it means.
 ghost use Rattle.std.specs.Prelude.{◌≡◌};
+ghost use Rattle.bus.specs.Loans.{Loans, Owned};
 ghost use Rattle.bus.specs.Memory.{MemoryMeaning, low_address, byte_read, byte_written, is_word_readable, is_word_writable, word_read, word_written};
 
 // A function code and an address, as they are sent.
@@ -24,6 +25,10 @@ impl Place {
 pub trait Memory {
     ghost means: { Self → MemoryMeaning };
 
+    // What of the memory is lent; no call changes that. (A memory that owns its bytes, or what it has them in, need not
+    // say so.)
+    ghost loans: { Self → Loans } = { λ _. Owned };
+
     // Whether a place is answered for reading.
     fn is_readable(&self, place: Place) -> bool
         ensures { result ≡ (means self.now).readable place.code place.address };
@@ -38,7 +43,8 @@ pub trait Memory {
 
     // Sets the byte at a place, if it is answered; otherwise nothing changes.
     fn write(&mut self, place: Place, byte: u8)
-        ensures { means self.new ≡ byte_written place.code place.address byte (means self.old) };
+        ensures after { means self.new ≡ byte_written place.code place.address byte (means self.old) }
+        ensures lent { loans self.new ≡ loans self.old };
 
     // A word is answered whole or not at all, so it has methods of its own and is no two bytes.
     fn is_word_readable(&self, place: Place) -> bool
@@ -62,7 +68,8 @@ pub trait Memory {
 
     // Sets the two bytes of a word, if both are answered; otherwise nothing changes.
     fn write_word(&mut self, place: Place, high: u8, low: u8)
-        ensures { means self.new ≡ word_written place.code place.address high low (means self.old) }
+        ensures after { means self.new ≡ word_written place.code place.address high low (means self.old) }
+        ensures lent { loans self.new ≡ loans self.old }
     {
         if self.is_word_writable(place) {
             self.write(place, high);

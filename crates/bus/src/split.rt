@@ -1,4 +1,5 @@
 // Two memories side by side.
+ghost use Rattle.bus.specs.Loans.{Beside};
 ghost use Rattle.bus.specs.Memory.{split};
 
 use crate::memory::{Memory, Place};
@@ -13,6 +14,8 @@ pub struct Split<A: Memory, B: Memory> {
 // The halves have a type each, so that every method makes the choice itself: no one function can give either half.
 impl<A: Memory, B: Memory> Memory for Split<A, B> {
     ghost means = { λ s. split (A.Memory.means s.upper) (B.Memory.means s.lower) };
+
+    ghost loans = { λ s. Beside (A.Memory.loans s.upper) (B.Memory.loans s.lower) };
 
     fn is_readable(&self, place: Place) -> bool {
         if place.code < 4 {

@@ -15,7 +15,8 @@ pub fn is_storable<M: Memory>(memory: &M, place: Place) -> bool
 
 // Stores one byte for the processor, or is refused and changes nothing.
 pub fn store<M: Memory>(memory: &mut M, place: Place, byte: u8) -> Result<(), Refusal>
-    ensures { record { memory = M.Memory.means memory.new; answer = result } ≡ stored place.code place.address byte (M.Memory.means memory.old) }
+    ensures stored { record { memory = M.Memory.means memory.new; answer = result } ≡ stored place.code place.address byte (M.Memory.means memory.old) }
+    ensures lent { M.Memory.loans memory.new ≡ M.Memory.loans memory.old }
 {
     if !is_storable(memory, place) {
         return Err(Refusal::NoPlace);

@@ -5,6 +5,7 @@ ghost use Rattle.devices.specs.Bank.{give_tried, take_tried, byte_handed, word_h
 ghost use Rattle.cycle.specs.Held.{data_bytes, byte_data, word_data};
 ghost use Rattle.cycle.specs.Carry.{sent, side_end, source_end, destination_end, is_device_cycle, slot_code, slot_address, count_of, data_got, bank_got, data_written, memory_put, bank_put, held_after};
 ghost use Rattle.cycle.specs.Serve.{is_slot_ready, is_slot_answered};
+ghost use Rattle.cycle.specs.Surroundings.{loans_of};
 
 use crate::held::{first_of, rest_of, with_more};
 use crate::plan::{Side, Slot, Way};
@@ -151,6 +152,7 @@ fn read_memory<M: Memory>(memory: &M, place: Place, word: bool) -> Data
 fn read_device<D: DeviceBank>(devices: &mut D, channel: u8, word: bool) -> Data
     ensures value { result ≡ (if word then word_data (word_handed channel (D.DeviceBank.bank devices.old)) else byte_data (byte_handed channel (D.DeviceBank.bank devices.old))) }
     ensures after { D.DeviceBank.bank devices.new ≡ give_tried channel (count_of word) (D.DeviceBank.bank devices.old) }
+    ensures lent { D.DeviceBank.loans devices.new ≡ D.DeviceBank.loans devices.old }
 {
     if word {
         Data::of_word(devices.give_word(channel))
@@ -160,7 +162,8 @@ fn read_device<D: DeviceBank>(devices: &mut D, channel: u8, word: bool) -> Data
 }
 
 fn write_memory<M: Memory>(memory: &mut M, place: Place, bytes: Data)
-    ensures { M.Memory.means memory.new ≡ data_written bytes place.code place.address (M.Memory.means memory.old) }
+    ensures after { M.Memory.means memory.new ≡ data_written bytes place.code place.address (M.Memory.means memory.old) }
+    ensures lent { M.Memory.loans memory.new ≡ M.Memory.loans memory.old }
 {
     match bytes {
         Data::Byte(byte) => memory.write(place, byte),
@@ -169,7 +172,8 @@ fn write_memory<M: Memory>(memory: &mut M, place: Place, bytes: Data)
 }
 
 fn write_device<D: DeviceBank>(devices: &mut D, channel: u8, bytes: Data)
-    ensures { D.DeviceBank.bank devices.new ≡ take_tried channel (data_bytes bytes) (D.DeviceBank.bank devices.old) }
+    ensures after { D.DeviceBank.bank devices.new ≡ take_tried channel (data_bytes bytes) (D.DeviceBank.bank devices.old) }
+    ensures lent { D.DeviceBank.loans devices.new ≡ D.DeviceBank.loans devices.old }
 {
     match bytes {
         Data::Byte(byte) => devices.take(channel, byte),
@@ -190,6 +194,7 @@ impl<M: Memory, D: DeviceBank> Surroundings<M, D> {
         ensures value { result ≡ data_got from number place.code place.address word held (M.Memory.means self.old.memory) (D.DeviceBank.bank self.old.devices) }
         ensures memory { M.Memory.means self.new.memory ≡ M.Memory.means self.old.memory }
         ensures bank { D.DeviceBank.bank self.new.devices ≡ bank_got from number word (D.DeviceBank.bank self.old.devices) }
+        ensures lent { loans_of M.Memory.loans D.DeviceBank.loans self.new ≡ loans_of M.Memory.loans D.DeviceBank.loans self.old }
     {
         match from {
             End::InMemory => read_memory(&self.memory, place, word),
@@ -202,6 +207,7 @@ impl<M: Memory, D: DeviceBank> Surroundings<M, D> {
     pub(crate) fn put(&mut self, to: End, number: u8, place: Place, bytes: Data)
         ensures memory { M.Memory.means self.new.memory ≡ memory_put to bytes place.code place.address (M.Memory.means self.old.memory) }
         ensures bank { D.DeviceBank.bank self.new.devices ≡ bank_put to bytes number (D.DeviceBank.bank self.old.devices) }
+        ensures lent { loans_of M.Memory.loans D.DeviceBank.loans self.new ≡ loans_of M.Memory.loans D.DeviceBank.loans self.old }
     {
         match to {
             End::InMemory => write_memory(&mut self.memory, place, bytes),

@@ -4,7 +4,7 @@ ghost use Rattle.bus.specs.Memory.{MemoryMeaning};
 ghost use Rattle.devices.specs.Bank.{BankMeaning};
 ghost use Rattle.channel.specs.Operation.{words_read};
 ghost use Rattle.cycle.specs.Plan.{plan};
-ghost use Rattle.cycle.specs.Surroundings.{within};
+ghost use Rattle.cycle.specs.Surroundings.{within, loans_of};
 ghost use Rattle.cycle.specs.Serve.{Served, left, Kept, kind_by, side_fault, begun_at, operand_moved, slot_carried, slot_data, slot_at, next_fault, operand_served, entry_served, served, bus_fault, is_entry_misplaced};
 
 use crate::carry::sent;
@@ -86,7 +86,8 @@ fn carry<M: Memory, D: DeviceBank>(
     around: &mut Surroundings<M, D>,
 ) -> Record
     requires { progress.cycles < 255 }
-    ensures { within M.Memory.means D.DeviceBank.bank around.new (left (Ok result) channel.new) ≡ within M.Memory.means D.DeviceBank.bank around.old (λ m b. slot_carried slot last progress.cycles progress.held progress.done (slot_data slot number progress.held channel.old m b) number channel.old m b) }
+    ensures all { within M.Memory.means D.DeviceBank.bank around.new (left (Ok result) channel.new) ≡ within M.Memory.means D.DeviceBank.bank around.old (λ m b. slot_carried slot last progress.cycles progress.held progress.done (slot_data slot number progress.held channel.old m b) number channel.old m b) }
+    ensures lent { loans_of M.Memory.loans D.DeviceBank.loans around.new ≡ loans_of M.Memory.loans D.DeviceBank.loans around.old }
 {
     let config = channel.registers.config;
     let (from, to) = slot.ends(config);
@@ -124,6 +125,7 @@ fn serve_operand<M: Memory, D: DeviceBank>(
 ) -> Result<Record, Hindrance>
     ensures all { within M.Memory.means D.DeviceBank.bank around.new (left result channel.new) ≡ within M.Memory.means D.DeviceBank.bank around.old (operand_served progress.cycles progress.held progress.done line number channel.old) }
     ensures kept { Kept result channel.old (M.Memory.means around.old.memory) (D.DeviceBank.bank around.old.devices) channel.new (M.Memory.means around.new.memory) (D.DeviceBank.bank around.new.devices) }
+    ensures lent { loans_of M.Memory.loans D.DeviceBank.loans around.new ≡ loans_of M.Memory.loans D.DeviceBank.loans around.old }
 {
     let config = channel.registers.config;
     let (slot, last) = next_slot(config, progress.cycles).ok_or(Hindrance::Waiting)?;
@@ -185,6 +187,7 @@ pub fn serve<M: Memory, D: DeviceBank>(
 ) -> Result<Record, Hindrance>
     ensures all { within M.Memory.means D.DeviceBank.bank around.new (left result channel.new) ≡ within M.Memory.means D.DeviceBank.bank around.old (served line number channel.old) }
     ensures kept { Kept result channel.old (M.Memory.means around.old.memory) (D.DeviceBank.bank around.old.devices) channel.new (M.Memory.means around.new.memory) (D.DeviceBank.bank around.new.devices) }
+    ensures lent { loans_of M.Memory.loans D.DeviceBank.loans around.new ≡ loans_of M.Memory.loans D.DeviceBank.loans around.old }
 {
     match channel.phase {
         Phase::Idle => {

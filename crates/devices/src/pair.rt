@@ -1,6 +1,7 @@
 // A bank of two banks.
 ghost use Rattle.std.specs.Prelude.{◌≡◌};
 ghost use Rattle.devices.specs.Bank.{pair};
+ghost use Rattle.devices.specs.Loans.{Beside};
 
 use crate::bank::DeviceBank;
 
@@ -29,6 +30,8 @@ impl<A: DeviceBank, B: DeviceBank> Pair<A, B> {
 
 impl<A: DeviceBank, B: DeviceBank> DeviceBank for Pair<A, B> {
     ghost bank = { λ s. pair s.limit (A.DeviceBank.bank s.first) (B.DeviceBank.bank s.second) };
+
+    ghost loans = { λ s. Beside (A.DeviceBank.loans s.first) (B.DeviceBank.loans s.second) };
 
     fn can_give(&self, channel: u8, count: usize) -> bool {
         if channel < self.limit {

@@ -1,6 +1,7 @@
 // Runs: many bus steps in a row, into a trace.
 ghost use Rattle.std.specs.Prelude.{◌≡◌, ◌<◌, Some, length};
 ghost use Rattle.queue.specs.Queue.{held, capacity_of};
+ghost use Rattle.cycle.specs.Surroundings.{loans_of};
 ghost use Rattle.dmac.specs.Step.{Machine, machine_at};
 ghost use Rattle.dmac.specs.Run.{turned_by, turned, run_on, run_taken, ending_word};
 
@@ -70,6 +71,7 @@ impl Dmac {
         requires { length (held trace.old) < capacity_of trace.old }
         ensures turn { record { machine = machine_at M.Memory.means D.DeviceBank.bank self.new around.new; trace = held trace.new; stop = result } ≡ turned (machine_at M.Memory.means D.DeviceBank.bank self.old around.old) (held trace.old) }
         ensures room { capacity_of trace.new ≡ capacity_of trace.old }
+        ensures lent { loans_of M.Memory.loans D.DeviceBank.loans around.new ≡ loans_of M.Memory.loans D.DeviceBank.loans around.old }
     {
         let answer = self.turn(around, Exception::Absent, false);
         note(trace, answer)
@@ -83,6 +85,7 @@ impl Dmac {
     ) -> Ran
         ensures run { record { machine = machine_at M.Memory.means D.DeviceBank.bank self.new around.new; trace = held trace.new; told = result } ≡ run_on steps (capacity_of trace.old) 0 (machine_at M.Memory.means D.DeviceBank.bank self.old around.old) (held trace.old) }
         ensures room { capacity_of trace.new ≡ capacity_of trace.old }
+        ensures lent { loans_of M.Memory.loans D.DeviceBank.loans around.new ≡ loans_of M.Memory.loans D.DeviceBank.loans around.old }
     {
         // The steps are counted, since the answer tells how many were made.
         for made in 0..steps {
@@ -114,6 +117,7 @@ impl Dmac {
     ) -> Result<Ran, Refusal>
         ensures run { record { machine = machine_at M.Memory.means D.DeviceBank.bank self.new around.new; trace = held trace.new; answer = result } ≡ run_taken steps (capacity_of trace.old) (machine_at M.Memory.means D.DeviceBank.bank self.old around.old) (held trace.old) }
         ensures room { capacity_of trace.new ≡ capacity_of trace.old }
+        ensures lent { loans_of M.Memory.loans D.DeviceBank.loans around.new ≡ loans_of M.Memory.loans D.DeviceBank.loans around.old }
     {
         if steps > 0 && trace.is_full() {
             return Err(Refusal::TraceFull);

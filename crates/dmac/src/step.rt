@@ -1,5 +1,6 @@
 // The bus step and the request lines.
 ghost use Rattle.std.specs.Prelude.{◌≡◌, ◌<◌, IfSome};
+ghost use Rattle.cycle.specs.Surroundings.{loans_of};
 ghost use Rattle.dmac.specs.Choice.{inside_of, counting_of, priorities_of, chosen};
 ghost use Rattle.dmac.specs.Exception.{code_of};
 ghost use Rattle.dmac.specs.Step.{machine_at, gate_of, failed, step_passed, step_on, step_chosen, step_taken};
@@ -93,7 +94,8 @@ impl Dmac {
         done: bool,
     ) -> Answer
         requires { channel < 4 }
-        ensures { record { machine = machine_at M.Memory.means D.DeviceBank.bank self.new around.new; answer = result } ≡ step_passed channel held done (machine_at M.Memory.means D.DeviceBank.bank self.old around.old) }
+        ensures step { record { machine = machine_at M.Memory.means D.DeviceBank.bank self.new around.new; answer = result } ≡ step_passed channel held done (machine_at M.Memory.means D.DeviceBank.bank self.old around.old) }
+        ensures lent { loans_of M.Memory.loans D.DeviceBank.loans around.new ≡ loans_of M.Memory.loans D.DeviceBank.loans around.old }
     {
         match serve(&mut self.channels[channel as usize], channel, around, done) {
             Ok(record) => {
@@ -115,7 +117,8 @@ impl Dmac {
         done: bool,
     ) -> Answer
         requires { channel < 4 }
-        ensures { record { machine = machine_at M.Memory.means D.DeviceBank.bank self.new around.new; answer = result } ≡ step_on channel (code_of exception) done (machine_at M.Memory.means D.DeviceBank.bank self.old around.old) }
+        ensures step { record { machine = machine_at M.Memory.means D.DeviceBank.bank self.new around.new; answer = result } ≡ step_on channel (code_of exception) done (machine_at M.Memory.means D.DeviceBank.bank self.old around.old) }
+        ensures lent { loans_of M.Memory.loans D.DeviceBank.loans around.new ≡ loans_of M.Memory.loans D.DeviceBank.loans around.old }
     {
         if is_entry_misplaced(&self.channels[channel as usize]) {
             return self.fail(channel, Fault::BaseAddress);
@@ -141,7 +144,8 @@ impl Dmac {
         exception: Exception,
         done: bool,
     ) -> Answer
-        ensures { record { machine = machine_at M.Memory.means D.DeviceBank.bank self.new around.new; answer = result } ≡ step_chosen (chosen self.old) (code_of exception) done (machine_at M.Memory.means D.DeviceBank.bank self.old around.old) }
+        ensures step { record { machine = machine_at M.Memory.means D.DeviceBank.bank self.new around.new; answer = result } ≡ step_chosen (chosen self.old) (code_of exception) done (machine_at M.Memory.means D.DeviceBank.bank self.old around.old) }
+        ensures lent { loans_of M.Memory.loans D.DeviceBank.loans around.new ≡ loans_of M.Memory.loans D.DeviceBank.loans around.old }
     {
         match self.chosen() {
             None => {
@@ -160,7 +164,8 @@ impl Dmac {
         exception: u8,
         done: bool,
     ) -> Result<Answer, Refusal>
-        ensures { record { machine = machine_at M.Memory.means D.DeviceBank.bank self.new around.new; answer = result } ≡ step_taken exception done (machine_at M.Memory.means D.DeviceBank.bank self.old around.old) }
+        ensures step { record { machine = machine_at M.Memory.means D.DeviceBank.bank self.new around.new; answer = result } ≡ step_taken exception done (machine_at M.Memory.means D.DeviceBank.bank self.old around.old) }
+        ensures lent { loans_of M.Memory.loans D.DeviceBank.loans around.new ≡ loans_of M.Memory.loans D.DeviceBank.loans around.old }
     {
         match Exception::try_from(exception)? {
             Exception::Reset => {

@@ -1,5 +1,5 @@
 // A device of one channel, of a kind that is known only when the program runs.
-ghost use Rattle.replay.specs.Device.{meaning};
+ghost use Rattle.replay.specs.Device.{meaning, lent_of};
 
 use devices::bank::DeviceBank;
 
@@ -12,6 +12,8 @@ pub enum Device<A, B> {
 
 impl<A: DeviceBank, B: DeviceBank> DeviceBank for Device<A, B> {
     ghost bank = { λ s. meaning A.DeviceBank.bank B.DeviceBank.bank s };
+
+    ghost loans = { λ s. lent_of A.DeviceBank.loans B.DeviceBank.loans s };
 
     fn can_give(&self, channel: u8, count: usize) -> bool {
         match self {

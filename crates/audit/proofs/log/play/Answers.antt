@@ -24,6 +24,7 @@ loop-entry-preserved g c =
           })
           lt c.perform-entry.ensures.done c.room-entry.ensures c.perform-entry.ensures.room c.loop-entry.invariant.0,
       c.perform-entry.ensures.room ∙ c.loop-entry.invariant.1,
+      c.perform-entry.ensures.lent ∙ c.loop-entry.invariant.2,
     )
 
 pub returns : goal.returns
@@ -43,4 +44,5 @@ returns g c =
             trace = held c.loop-entry.trace;
             entries = c.loop-entry.log;
           }) e;
+      lent = c.loop-entry.invariant.2;
     }

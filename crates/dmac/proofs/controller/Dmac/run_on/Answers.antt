@@ -15,4 +15,5 @@ pub loop-made-preserved : goal.loop-made-preserved
 loop-made-preserved g c = (
   run_onward _ _ _ _ _ _ _ c.loop-made-test.true c.loop-made.invariant.0 c.loop-made.invariant.1 _ c.if-is_full.ensures c.in_default.ensures.turn refl,
   c.in_default.ensures.room ∙ c.loop-made.invariant.1,
+  c.in_default.ensures.lent ∙ c.loop-made.invariant.2,
 )
