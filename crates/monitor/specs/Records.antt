@@ -1,7 +1,7 @@
 -- How a run is printed: a line for each record, and a line for why it ended.
 use Rattle.std.specs.Prelude.{ℕ, ◌/◌, ◌%◌, List, [], ◌∷◌, ◌++◌}
 use Rattle.registers.specs.Fault.{code_of}
-use Rattle.cycle.specs.Record.{kind_letter}
+pub use Rattle.cycle.specs.Record.{kind_letter}
 use Rattle.cycle.specs.declared.record.Data.{Data}
 use Rattle.cycle.specs.declared.record.Data.TheVariants.{Byte, Word}
 use Rattle.cycle.specs.declared.record.Record.{Record}

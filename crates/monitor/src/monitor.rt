@@ -152,7 +152,7 @@ impl<M: Memory> Monitor<M> {
 
     // Carries out the lines of a script one after the other, and adds what each prints to `out` (`printed`). Whatever
     // history of calls led from a new controller to this one and its memory goes on with the calls of the script, and
-    // lawfully (`history`). It fails only for want of memory.
+    // lawfully (`history`). It fails only for want of memory for `out`.
     pub fn run(&mut self, script: &[u8], out: &mut Vec<u8>) -> Result<(), AllocError>
         ensures printed { OnOk result (session_at M.Memory.means self.new out.new.items ≡ script_done script.now (session_at M.Memory.means self.old out.old.items)) }
         ensures history { OnOk result (ScriptGoesOn script.now (session_at M.Memory.means self.old out.old.items) (session_at M.Memory.means self.new out.new.items)) }

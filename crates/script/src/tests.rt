@@ -1,7 +1,10 @@
 use crate::command::Command;
 use crate::lines::{Lines, after_line, first_line};
 use crate::parse::parse;
-use crate::text::{DataBytes, byte_at, data_count, put_byte, put_ok, put_refusal};
+use crate::text::{
+    DataBytes, Hex, byte_at, data_count, hex_pair, put, put_byte, put_newline, put_ok, put_pair,
+    put_refusal,
+};
 use refusal::kinds::Refusal;
 use std::test::Fail;
 
@@ -105,5 +108,16 @@ fn answers(rt: HostRuntime) -> Result<(), Fail> {
     put_refusal(&mut out, Refusal::NoCommand)?;
     put_refusal(&mut out, Refusal::TraceFull)?;
     assert!(rt; out.as_slice() == b"OK\n2A\nE 06\nE 10\n".as_slice());
+    Ok(())
+}
+
+#[test]
+fn printed_digits(rt: HostRuntime) -> Result<(), Fail> {
+    assert_eq!(rt; hex_pair(0x2A), [b'2', b'A']);
+    let mut out = Vec::new(rt.alloc());
+    put(&mut out, Hex(0x0A))?;
+    put_pair(&mut out, 0xF7)?;
+    put_newline(&mut out)?;
+    assert!(rt; out.as_slice() == b"0AF7\n".as_slice());
     Ok(())
 }

@@ -4,13 +4,12 @@ ghost use Rattle.std.specs.Prelude.{◌≡◌, ◌+◌, ◌*◌, ◌/◌, ◌<�
 ghost use Rattle.std.specs.Fmt.{AppendsText};
 ghost use Rattle.std.specs.Iterator.{YieldsFirst, item_count};
 ghost use Rattle.script.specs.Digits.{digit_value, data_bytes};
-ghost use Rattle.script.specs.Text.{hex_text, newline, ok_text, byte_text, refusal_text};
+ghost use Rattle.script.specs.Text.{hex_code, hex_text, newline, ok_text, byte_text, refusal_text};
 
 use crate::digits::digit;
 use refusal::kinds::Refusal;
 use std::alloc::AllocError;
 use std::fmt;
-use std::io::Write;
 
 // The value of a digit, where a byte that is none counts 0.
 fn value(code: u8) -> u8
@@ -72,13 +71,35 @@ pub fn data_count(digits: &[u8]) -> usize
 pub fn byte_at(digits: &[u8], index: usize) -> u8
     ensures { result ≡ slice_index (data_bytes digits.now) index }
 {
-    let (pairs, _) = digits.as_chunks::<2>();
-    pairs
-        .get(index)
-        .map_or(0, |[high, low]| spelled(*high, *low))
+    if index < data_count(digits) {
+        let (pairs, _) = digits.as_chunks::<2>();
+        let [high, low] = pairs[index];
+        spelled(high, low)
+    } else {
+        0
+    }
+}
+
+// The code of a digit.
+fn digit_code(digit: u8) -> u8
+    requires { digit < 16 }
+    ensures { result ≡ hex_code digit }
+{
+    if digit < 10 {
+        b'0' + digit
+    } else {
+        b'A' - 10 + digit
+    }
 }
 
 // A byte as two digits.
+pub fn hex_pair(byte: u8) -> [u8; 2]
+    ensures { result ≡ hex_text byte }
+{
+    [digit_code(byte / 16), digit_code(byte % 16)]
+}
+
+// A byte that is printed as two digits.
 #[derive(Clone, Copy, PartialEq, Eq, Debug)]
 pub struct Hex(pub u8);
 
@@ -91,8 +112,8 @@ impl fmt::Display for Hex {
     }
 }
 
-// Adds a text to what `out` holds. By way of a String: `write!` onto a Vec fails by an io::Error, and here only want of
-// memory may.
+// Adds what a value prints to what `out` holds. By way of a String, whose error is an AllocError, for want of memory and
+// where the value's own `fmt` fails; `write!` onto a Vec fails by an io::Error. The functions below need no String.
 pub fn put<D: fmt::Display + Drop>(out: &mut Vec<u8>, text: D) -> Result<(), AllocError>
     ensures { OnOk result (AppendsText out.old.items out.new.items (D.output text)) }
 {
@@ -111,28 +132,29 @@ pub fn put_text(out: &mut Vec<u8>, text: &[u8]) -> Result<(), AllocError>
 pub fn put_pair(out: &mut Vec<u8>, byte: u8) -> Result<(), AllocError>
     ensures { OnOk result (out.new.items ≡ out.old.items ++ hex_text byte) }
 {
-    put(out, Hex(byte))
+    put_text(out, &hex_pair(byte))
 }
 
 // Ends the line that `out` ends with.
 pub fn put_newline(out: &mut Vec<u8>) -> Result<(), AllocError>
     ensures { OnOk result (out.new.items ≡ out.old.items ++ newline) }
 {
-    put(out, "\n")
+    put_text(out, b"\n")
 }
 
 // Adds the answer `OK`.
 pub fn put_ok(out: &mut Vec<u8>) -> Result<(), AllocError>
     ensures { OnOk result (out.new.items ≡ out.old.items ++ ok_text) }
 {
-    put(out, "OK\n")
+    put_text(out, b"OK\n")
 }
 
 // Adds the answer that is a byte, as `2A`.
 pub fn put_byte(out: &mut Vec<u8>, byte: u8) -> Result<(), AllocError>
     ensures { OnOk result (out.new.items ≡ out.old.items ++ byte_text byte) }
 {
-    put(out, format_args!("{}\n", Hex(byte)))
+    let [high, low] = hex_pair(byte);
+    put_text(out, &[high, low, b'\n'])
 }
 
 // Adds the answer that is a refusal, as `E 06`.
@@ -140,5 +162,6 @@ pub fn put_refusal(out: &mut Vec<u8>, refusal: Refusal) -> Result<(), AllocError
     ensures { OnOk result (out.new.items ≡ out.old.items ++ refusal_text refusal) }
 {
     let number = refusal.number();
-    put(out, format_args!("E {number:02}\n"))
+    let text = [b'E', b' ', b'0' + number / 10, b'0' + number % 10, b'\n'];
+    put_text(out, &text)
 }
