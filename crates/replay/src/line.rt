@@ -1,10 +1,7 @@
 // The calls and questions that a line can be.
-use crate::fields::{
-    LineError, decimal, decimal_below, decimal_byte, fields_of, flag, hex, hex_of,
-};
+use crate::fields::{BadLine, Fields, decimal, decimal_below, decimal_byte, flag, hex, hex_of};
 use audit::call::Call;
 use bus::memory::Place;
-use std::alloc::Global;
 
 // A line is a call, the emptying of the trace, or a question.
 #[derive(Clone, Copy)]
@@ -25,7 +22,7 @@ pub enum Question {
     Device { channel: u8 },
 }
 
-fn call_of(fields: &[&[u8]]) -> Result<Call, LineError> {
+fn call_of(fields: &[&[u8]]) -> Result<Call, BadLine> {
     match fields {
         [b"rb", offset] => Ok(Call::ReadByte(hex_of(offset, 2)?)),
         [b"rw", offset] => Ok(Call::ReadWord(hex_of(offset, 2)?)),
@@ -39,11 +36,11 @@ fn call_of(fields: &[&[u8]]) -> Result<Call, LineError> {
         )),
         [b"step", exception, done] => Ok(Call::Step(decimal_byte(exception)?, flag(done)?)),
         [b"run", steps] => Ok(Call::Run(decimal(steps)?)),
-        _ => Err(LineError::BadLine),
+        _ => Err(BadLine),
     }
 }
 
-fn question_of(fields: &[&[u8]]) -> Result<Question, LineError> {
+fn question_of(fields: &[&[u8]]) -> Result<Question, BadLine> {
     match fields {
         [b"regs", channel] => Ok(Question::Registers {
             channel: decimal_below(channel, 4)?,
@@ -62,20 +59,20 @@ fn question_of(fields: &[&[u8]]) -> Result<Question, LineError> {
         [b"dev?", channel] => Ok(Question::Device {
             channel: decimal_below(channel, 4)?,
         }),
-        _ => Err(LineError::BadLine),
+        _ => Err(BadLine),
     }
 }
 
 // What a line says.
-pub fn parse(heap: Global, text: &[u8]) -> Result<Line, LineError> {
-    let fields = fields_of(heap, text)?;
+pub fn parse(text: &[u8]) -> Result<Line, BadLine> {
+    let fields = Fields::of(text);
     match fields.as_slice() {
         [b"empty", count] => Ok(Line::Empty {
             count: decimal(count)?,
         }),
-        [b"regs" | b"gcr" | b"peek" | b"mem?" | b"dev?", ..] => {
-            Ok(Line::Ask(question_of(&fields)?))
+        asked @ [b"regs" | b"gcr" | b"peek" | b"mem?" | b"dev?", ..] => {
+            Ok(Line::Ask(question_of(asked)?))
         }
-        _ => Ok(Line::Make(call_of(&fields)?)),
+        called => Ok(Line::Make(call_of(called)?)),
     }
 }

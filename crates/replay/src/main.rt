@@ -20,7 +20,7 @@ mod print;
 mod setup;
 
 use crate::device::Device;
-use crate::fields::LineError;
+use crate::fields::{BadLine, LineError};
 use crate::line::parse;
 use crate::player::{Four, Player, Single, UPPER};
 use crate::setup::{Contents, Medium, bank, memory, trace};
@@ -37,33 +37,42 @@ use dmac::controller::Dmac;
 use inputs::for_each_input;
 use queue::Queue;
 use script::lines::Lines;
+use script::text::put_text;
 use std::alloc::{AllocError, Global};
-use std::io;
-use std::io::{BufWriter, Write};
+use std::io::Write;
+
+// So many bytes of answers are written at once, and whole lines of them.
+const PAGE: usize = 65536;
 
 const TOO_LARGE: &str = "the memory is too large";
 
 // Prints a line, which may be any bytes, and what separates it from its answer.
-fn put_line<W: Write>(out: &mut W, line: &[u8]) -> io::Result<()> {
-    out.write_all(line)?;
-    write!(out, " = ")
+fn begin_line(out: &mut Vec<u8>, line: &[u8]) -> Result<(), AllocError> {
+    put_text(out, line)?;
+    put_text(out, b" = ")
+}
+
+// Ends the line that `out` ends with, and writes what it holds if that is enough.
+fn end_line(rt: &HostRuntime, out: &mut Vec<u8>) -> anyhow::Result<()> {
+    put_text(out, b"\n")?;
+    if out.len() >= PAGE {
+        rt.stdout().write_all(out)?;
+        out.clear();
+    }
+    Ok(())
 }
 
 // Makes the call that a line is, and prints what it answers.
-fn play_line<M: Memory, W: Write>(
-    heap: Global,
+fn play_line<M: Memory>(
     player: &mut Player<'_, M>,
     line: &[u8],
-    out: &mut W,
-) -> anyhow::Result<()> {
-    put_line(out, line)?;
-    match parse(heap, line) {
-        Ok(call) => player.play(call, out)?,
-        Err(LineError::BadLine) => write!(out, "bad line")?,
-        Err(LineError::NoMemory(error)) => return Err(error.into()),
+    out: &mut Vec<u8>,
+) -> Result<(), AllocError> {
+    begin_line(out, line)?;
+    match parse(line) {
+        Ok(call) => player.play(call, out),
+        Err(BadLine) => put_text(out, b"bad line"),
     }
-    writeln!(out)?;
-    Ok(())
 }
 
 // The device of a channel over what it reads or keeps.
@@ -100,32 +109,35 @@ fn flat<'a>(bytes: &'a mut [u8]) -> anyhow::Result<Flat<'a>> {
     }
 }
 
-// A sequence that is played: where lists are made, the lines that are left, and where the answers go.
+// A sequence that is played: where the answers are written to, the lines that are left, and the answers that wait to be
+// written.
 #[derive(Drop)]
-struct Sequence<'a, W: Write + Drop> {
-    heap: Global,
+struct Sequence<'a> {
+    rt: &'a HostRuntime,
     lines: Lines<'a>,
-    out: W,
+    out: Vec<u8>,
 }
 
-impl<'a, W: Write + Drop> Sequence<'a, W> {
+impl<'a> Sequence<'a> {
     // Takes lines up to the first that `read` takes, and prints of each whether it is; what that line sets up.
-    fn set_up<T: Drop, F: Fn(Global, &[u8]) -> Result<T, LineError>>(
+    fn set_up<T: Drop, F: Fn(&[u8]) -> Result<T, LineError>>(
         &mut self,
         read: F,
     ) -> anyhow::Result<Option<T>>
         requires { F.IsAlwaysCallable read }
     {
         for line in &mut self.lines {
-            put_line(&mut self.out, line)?;
-            match read(self.heap, line) {
+            begin_line(&mut self.out, line)?;
+            match read(line) {
                 Ok(taken) => {
-                    writeln!(self.out, "ok")?;
+                    put_text(&mut self.out, b"ok")?;
+                    end_line(self.rt, &mut self.out)?;
                     return Ok(Some(taken));
                 }
-                Err(LineError::BadLine) => writeln!(self.out, "bad line")?,
+                Err(LineError::BadLine) => put_text(&mut self.out, b"bad line")?,
                 Err(LineError::NoMemory(error)) => return Err(error.into()),
             }
+            end_line(self.rt, &mut self.out)?;
         }
         Ok(None)
     }
@@ -138,7 +150,7 @@ impl<'a, W: Write + Drop> Sequence<'a, W> {
         media: [Medium; 4],
         places: usize,
     ) -> anyhow::Result<()> {
-        let mut slots = blanks(self.heap, places)?;
+        let mut slots = blanks(self.rt.alloc(), places)?;
         let trace = Queue::new(&mut slots);
         let [mut first, mut second, mut third, mut fourth] = media;
         let devices = four_lent(&mut first, &mut second, &mut third, &mut fourth);
@@ -148,10 +160,11 @@ impl<'a, W: Write + Drop> Sequence<'a, W> {
             around,
             upper,
             trace,
-            moved: blanks(self.heap, places)?,
+            moved: blanks(self.rt.alloc(), places)?,
         };
         for line in &mut self.lines {
-            play_line(self.heap, &mut player, line, &mut self.out)?;
+            play_line(&mut player, line, &mut self.out)?;
+            end_line(self.rt, &mut self.out)?;
         }
         Ok(())
     }
@@ -159,10 +172,11 @@ impl<'a, W: Write + Drop> Sequence<'a, W> {
     // Plays the sequence: first the lines that set up, then the calls. A sequence that ends before it is set up plays
     // nothing, and that is no error.
     fn play(&mut self) -> anyhow::Result<()> {
-        let Some(contents) = self.set_up(memory)? else {
+        let heap = self.rt.alloc();
+        let Some(contents) = self.set_up(|line| memory(heap, line))? else {
             return Ok(());
         };
-        let Some(media) = self.set_up(bank)? else {
+        let Some(media) = self.set_up(|line| bank(heap, line))? else {
             return Ok(());
         };
         let Some(places) = self.set_up(trace)? else {
@@ -184,15 +198,15 @@ impl<'a, W: Write + Drop> Sequence<'a, W> {
     }
 }
 
-// Plays a sequence, and prints its answers.
+// Plays a sequence, and writes what is left of its answers. (What waits when there is an error is not written.)
 fn replay(rt: &HostRuntime, input: &[u8]) -> anyhow::Result<()> {
     let mut sequence = Sequence {
-        heap: rt.alloc(),
+        rt,
         lines: Lines::of(input),
-        out: BufWriter::new(rt.alloc(), io::writer(rt))?,
+        out: Vec::new(rt.alloc()),
     };
     sequence.play()?;
-    sequence.out.flush()?;
+    rt.stdout().write_all(&sequence.out)?;
     Ok(())
 }
 

@@ -1,8 +1,8 @@
 // A controller with its memory, its devices and its trace, and what it answers to each line.
 use crate::device::Device;
 use crate::line::{Line, Question};
-use crate::print::Shown;
-use audit::call::{Call, Reply};
+use crate::print::{put_bytes, put_moved, put_number, put_read_byte, put_records, put_reply};
+use audit::call::Call;
 use audit::perform::perform;
 use bus::flat::PLACES;
 use bus::memory::{Memory, Place};
@@ -13,8 +13,8 @@ use devices::printer::Printer;
 use devices::tape::Tape;
 use dmac::controller::Dmac;
 use queue::{Queue, move_oldest};
-use std::io;
-use std::io::Write;
+use script::text::{put_pair, put_text};
+use std::alloc::AllocError;
 
 // The device of one channel.
 pub type Single<'a> = Device<Tape<'a>, Printer<'a>>;
@@ -71,7 +71,7 @@ pub struct Player<'a, M: Memory> {
 
 impl<'a, M: Memory> Player<'a, M> {
     // Does what a line says, and prints the answer.
-    pub fn play<W: Write>(&mut self, line: Line, out: &mut W) -> io::Result<()> {
+    pub fn play(&mut self, line: Line, out: &mut Vec<u8>) -> Result<(), AllocError> {
         // Each arm is another function, with data of its own; so in `tell`.
         match line {
             Line::Make(call) => self.make(call, out),
@@ -81,13 +81,13 @@ impl<'a, M: Memory> Player<'a, M> {
     }
 
     // Makes a call, and prints what it replies.
-    fn make<W: Write>(&mut self, call: Call, out: &mut W) -> io::Result<()> {
+    fn make(&mut self, call: Call, out: &mut Vec<u8>) -> Result<(), AllocError> {
         let reply = perform(&mut self.dmac, &mut self.around, &mut self.trace, call);
-        write!(out, "{}", Shown(reply))
+        put_reply(out, reply)
     }
 
     // Answers a question.
-    fn tell<W: Write>(&self, question: Question, out: &mut W) -> io::Result<()> {
+    fn tell(&self, question: Question, out: &mut Vec<u8>) -> Result<(), AllocError> {
         match question {
             Question::Registers { channel } => self.registers(channel, out),
             Question::General => self.register(GENERAL, 1, out),
@@ -95,29 +95,25 @@ impl<'a, M: Memory> Player<'a, M> {
             Question::Bytes { upper: false } => self.all_bytes(LOWER, out),
             Question::Bytes { upper: true } => match self.upper {
                 Some(code) => self.all_bytes(code, out),
-                None => write!(out, "bad line"),
+                None => put_text(out, b"bad line"),
             },
             Question::Device { channel } => self.device(channel, out),
         }
     }
 
     // Moves the oldest records out of the trace, and prints them with a semicolon between two.
-    fn empty<W: Write>(&mut self, count: usize, out: &mut W) -> io::Result<()> {
+    fn empty(&mut self, count: usize, out: &mut Vec<u8>) -> Result<(), AllocError> {
         let moved = move_oldest(&mut self.trace, &mut self.moved, count);
-        write!(out, "moved {moved}:")?;
-        for (index, told) in self.moved.iter().take(moved).enumerate() {
-            let before = if index == 0 { " " } else { "; " };
-            write!(out, "{before}{}", Shown(*told))?;
-        }
-        Ok(())
+        put_moved(out, moved)?;
+        put_records(out, &self.moved, moved)
     }
 
     // The registers of a channel, with a blank between two.
-    fn registers<W: Write>(&self, channel: u8, out: &mut W) -> io::Result<()> {
+    fn registers(&self, channel: u8, out: &mut Vec<u8>) -> Result<(), AllocError> {
         let base = channel.wrapping_mul(64);
         for (index, (offset, width)) in SHOWN.iter().enumerate() {
             if index > 0 {
-                write!(out, " ")?;
+                put_text(out, b" ")?;
             }
             self.register(base.wrapping_add(*offset), *width, out)?;
         }
@@ -125,22 +121,21 @@ impl<'a, M: Memory> Player<'a, M> {
     }
 
     // A register of so many bytes. They are counted from 0, since nothing here bounds an offset and a width together.
-    fn register<W: Write>(&self, offset: u8, width: u8, out: &mut W) -> io::Result<()> {
+    fn register(&self, offset: u8, width: u8, out: &mut Vec<u8>) -> Result<(), AllocError> {
         for byte in 0..width {
-            let read = self.dmac.read_byte(offset.wrapping_add(byte));
-            write!(out, "{}", Shown(read.map(Reply::Byte)))?;
+            put_read_byte(out, self.dmac.read_byte(offset.wrapping_add(byte)))?;
         }
         Ok(())
     }
 
     // The bytes from a place on; two hyphens for one that is not answered. (An address and a count may end past a u32, so
     // that they are no range.)
-    fn peek<W: Write>(&self, place: Place, count: u32, out: &mut W) -> io::Result<()> {
+    fn peek(&self, place: Place, count: u32, out: &mut Vec<u8>) -> Result<(), AllocError> {
         let mut at = place;
         for _ in 0..count.min(ADDRESSES) {
             match self.around.memory.read(at) {
-                Some(byte) => write!(out, "{byte:02X}")?,
-                None => write!(out, "--")?,
+                Some(byte) => put_pair(out, byte)?,
+                None => put_text(out, b"--")?,
             }
             at = at.next();
         }
@@ -148,20 +143,23 @@ impl<'a, M: Memory> Player<'a, M> {
     }
 
     // All bytes that a function code names.
-    fn all_bytes<W: Write>(&self, code: u8, out: &mut W) -> io::Result<()> {
+    fn all_bytes(&self, code: u8, out: &mut Vec<u8>) -> Result<(), AllocError> {
         let memory = &self.around.memory;
         for byte in (0..ADDRESSES).map_while(|address| memory.read(Place { code, address })) {
-            write!(out, "{byte:02X}")?;
+            put_pair(out, byte)?;
         }
         Ok(())
     }
 
     // What waits in the device of a channel, what it keeps and how many places are free.
-    fn device<W: Write>(&self, channel: u8, out: &mut W) -> io::Result<()> {
+    fn device(&self, channel: u8, out: &mut Vec<u8>) -> Result<(), AllocError> {
         match self.device_of(channel) {
-            Device::Tape(tape) => write!(out, "{} / - / 0", Shown(tape.rest)),
+            Device::Tape(tape) => {
+                put_bytes(out, tape.rest)?;
+                put_text(out, b" / - / 0")
+            }
             Device::Printer(printer) => {
-                write!(out, "- / ")?;
+                put_text(out, b"- / ")?;
                 put_page(&printer.page, out)
             }
         }
@@ -180,12 +178,13 @@ impl<'a, M: Memory> Player<'a, M> {
 
 // What a printer keeps, a hyphen where that is nothing, and how many places are free. (The page may lie in two parts, so
 // that it is no slice to show.)
-fn put_page<W: Write>(page: &Queue<'_, u8>, out: &mut W) -> io::Result<()> {
+fn put_page(page: &Queue<'_, u8>, out: &mut Vec<u8>) -> Result<(), AllocError> {
     if page.is_empty() {
-        write!(out, "-")?;
+        put_text(out, b"-")?;
     }
     for byte in page.iter() {
-        write!(out, "{byte:02X}")?;
+        put_pair(out, *byte)?;
     }
-    write!(out, " / {}", page.room())
+    put_text(out, b" / ")?;
+    put_number(out, page.room())
 }

@@ -1,5 +1,5 @@
 // The set-up lines: the memory, the devices and the trace, in this order.
-use crate::fields::{LineError, bytes, decimal, fields_of, hex};
+use crate::fields::{BadLine, Fields, LineError, bytes, decimal, hex};
 use bus::flat::PLACES;
 use std::alloc::{AllocError, Global};
 
@@ -18,10 +18,10 @@ pub enum Medium {
 }
 
 // A number of bytes or places; neither a memory, nor a printer, nor a trace has more than 24 address bits reach.
-fn size(number: u32) -> Result<usize, LineError> {
+fn size(number: u32) -> Result<usize, BadLine> {
     match number as usize {
         size if size <= PLACES => Ok(size),
-        _ => Err(LineError::BadLine),
+        _ => Err(BadLine),
     }
 }
 
@@ -41,7 +41,7 @@ fn memory_bytes(heap: Global, field: &[u8]) -> Result<Vec<u8>, LineError> {
 
 // `mem zero N`, `mem flat HEX` or `mem split HEX HEX`
 pub fn memory(heap: Global, line: &[u8]) -> Result<Contents, LineError> {
-    match fields_of(heap, line)?.as_slice() {
+    match Fields::of(line).as_slice() {
         [b"mem", b"zero", count] => Ok(Contents::Flat(zeros(heap, size(hex(count)?)?)?)),
         [b"mem", b"flat", bytes] => Ok(Contents::Flat(memory_bytes(heap, bytes)?)),
         [b"mem", b"split", upper, lower] => Ok(Contents::Split {
@@ -63,7 +63,7 @@ fn medium_of(heap: Global, field: &[u8]) -> Result<Medium, LineError> {
 
 // `bank D D D D`, the devices of the four channels
 pub fn bank(heap: Global, line: &[u8]) -> Result<[Medium; 4], LineError> {
-    match fields_of(heap, line)?.as_slice() {
+    match Fields::of(line).as_slice() {
         [b"bank", first, second, third, fourth] => Ok([
             medium_of(heap, first)?,
             medium_of(heap, second)?,
@@ -75,9 +75,9 @@ pub fn bank(heap: Global, line: &[u8]) -> Result<[Medium; 4], LineError> {
 }
 
 // `trace N`
-pub fn trace(heap: Global, line: &[u8]) -> Result<usize, LineError> {
-    match fields_of(heap, line)?.as_slice() {
-        [b"trace", places] => size(decimal(places)?),
+pub fn trace(line: &[u8]) -> Result<usize, LineError> {
+    match Fields::of(line).as_slice() {
+        [b"trace", places] => Ok(size(decimal(places)?)?),
         _ => Err(LineError::BadLine),
     }
 }

@@ -1,0 +1,5 @@
+-- Each turn has a digit less.
+use Rattle.replay.proofs.print.+put_number.Given as goal
+
+abbrev pub decreases-put_number : goal.decreases-put_number
+decreases-put_number l = l.number
