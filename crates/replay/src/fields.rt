@@ -126,7 +126,11 @@ pub fn decimal_below(field: &[u8], limit: u8) -> Result<u8, BadLine> {
 
 // A line or a flag: 0 or 1.
 pub fn flag(field: &[u8]) -> Result<bool, BadLine> {
-    Ok(decimal_below(field, 2)? == 1)
+    match field {
+        b"0" => Ok(false),
+        b"1" => Ok(true),
+        _ => Err(BadLine),
+    }
 }
 
 // The bytes that pairs of digits spell.
